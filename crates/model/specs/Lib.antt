@@ -1,0 +1,10 @@
+pub mod Words
+pub mod Trees
+pub mod Refusals
+pub mod File
+pub mod Edits
+pub mod Opening
+pub mod Dropping
+pub mod Rounds
+pub mod Answers
+pub mod Program
