@@ -220,6 +220,16 @@ asked-too =
     ∷ updating (update 150 32768 (chained (times 8 (2 ∷ 0xC000 ∷ []) ++ times 8 (1 ∷ 0xC000 ∷ []))) (at 0 (rename 4)))
     ∷ []
 
+-- the third chain after two rounds: of two digrams with as many occurrences the smaller came first, and the second new rule pushed it up
+repacked-twice : List Rule
+repacked-twice =
+    leaf
+    ∷ rule 1 (2 ∷ 0xC000 ∷ 0x8001 ∷ [])
+    ∷ rule 1 (1 ∷ 0xC000 ∷ 0x8001 ∷ [])
+    ∷ aside
+    ∷ rule 0 (4 ∷ 0xC003 ∷ 0 ∷ times 8 (0xC001 ∷ []) ++ times 8 (0xC002 ∷ []) ++ 0 ∷ [])
+    ∷ []
+
 answered-too : List Line
 answered-too =
     updating (yes-with 0 (fan ∷ rule 0 (4 ∷ 0 ∷ 5 ∷ 6 ∷ 0 ∷ 0 ∷ 1 ∷ 0xC000 ∷ 0xC000 ∷ 0 ∷ 0 ∷ []) ∷ []))
@@ -254,14 +264,7 @@ answered-too =
     ∷ updating (refusing 100 32768 15 0)
     ∷ updating (filing 150 0 0 (leaf ∷ aside ∷ rule 0 (4 ∷ 0xC001 ∷ 0 ∷ times 7 (2 ∷ 0xC000 ∷ []) ++ 0 ∷ []) ∷ []))
     ∷ updating (filing 150 0 1 (leaf ∷ rule 1 (2 ∷ 0xC000 ∷ 0x8001 ∷ []) ∷ aside ∷ rule 0 (4 ∷ 0xC002 ∷ 0 ∷ times 8 (0xC001 ∷ []) ++ 0 ∷ []) ∷ []))
-    ∷ updating
-    (filing 150 0 2
-    (leaf
-    ∷ rule 1 (2 ∷ 0xC000 ∷ 0x8001 ∷ [])
-    ∷ rule 1 (1 ∷ 0xC000 ∷ 0x8001 ∷ [])
-    ∷ aside
-    ∷ rule 0 (4 ∷ 0xC003 ∷ 0 ∷ times 8 (0xC001 ∷ []) ++ times 8 (0xC002 ∷ []) ++ 0 ∷ [])
-    ∷ []))
+    ∷ updating (filing 150 0 2 repacked-twice)
     ∷ []
 
 -- the lengths of P19 and P20; an update at a node that a delete removes, t1's ⊥ included, is not apart from it
@@ -269,5 +272,5 @@ told :
     (asked-too ≡ answered-too)
     × (length (write (rule 0 (siblings 19) ∷ [])) ∷ pack 100 32768 (siblings 20) .answer .length ∷ [] ≡ 96 ∷ 98 ∷ [])
     × (apart grown three ∷ apart grown (at 1 delete ∷ at 4 (rename 4) ∷ []) ∷ [] ≡ true ∷ false ∷ [])
-unfolding asked-too answered-too siblings times leaf aside chained nested fragment grown three one-by-one on yes-with no-with no yes refusing filing rule at G G2 fan G1-request classOf read write openedAt dropped repacked remade update program packed pack
+unfolding asked-too answered-too siblings times leaf aside chained nested fragment grown three one-by-one repacked-twice on yes-with no-with no yes refusing filing rule at G G2 fan G1-request classOf read write openedAt dropped repacked remade update program packed pack
 told = (refl, refl, refl)
