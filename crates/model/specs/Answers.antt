@@ -55,9 +55,10 @@ pub record LabelAnswer : Type 0 where
 
 abbrev pub labelAs : ℕ → Result (List Rule) → LabelAnswer
 labelAs p (taken rules) =
-    elim (leb (nodes rules) p)
-    [ true ↦ record { answer = refusal POSITION 0; word = 65535 }
-    | false ↦ record { answer = accepted 0 0 0; word = getD (treeOf rules) p 0 } ]
+    elim (leb (nodes rules) p) [
+      | true ↦ record { answer = refusal POSITION 0; word = 65535 }
+      | false ↦ record { answer = accepted 0 0 0; word = getD (treeOf rules) p 0 }
+    ]
 labelAs p (refused x k) = record { answer = refusal x k; word = 65535 }
 
 abbrev pub labelAt : List ℕ → ℕ → LabelAnswer
@@ -70,9 +71,10 @@ pub record WindowAnswer : Type 0 where
 
 abbrev pub windowAs : ℕ → ℕ → Result (List Rule) → WindowAnswer
 windowAs p size (taken rules) =
-    elim (ltb (nodes rules) (p + size))
-    [ true ↦ record { answer = refusal POSITION 0; window = replicate size 65535 }
-    | false ↦ record { answer = accepted 0 0 0; window = take size (drop p (treeOf rules)) } ]
+    elim (ltb (nodes rules) (p + size)) [
+      | true ↦ record { answer = refusal POSITION 0; window = replicate size 65535 }
+      | false ↦ record { answer = accepted 0 0 0; window = take size (drop p (treeOf rules)) }
+    ]
 windowAs p size (refused x k) = record { answer = refusal x k; window = replicate size 65535 }
 
 abbrev pub windowAt : List ℕ → ℕ → ℕ → WindowAnswer
@@ -90,10 +92,10 @@ refusedFile room work x k = record { answer = refusal x k; result = replicate ro
 
 abbrev pub acceptedFile : ℕ → ℕ → ℕ → ℕ → List ℕ → FileAnswer
 acceptedFile room work opened rounds file =
-    record
-    { answer = accepted opened rounds (length file)
-    ; result = file ++ replicate (room - length file) 255
-    ; work = replicate work 0
+    record {
+      answer = accepted opened rounds (length file);
+      result = file ++ replicate (room - length file) 255;
+      work = replicate work 0;
     }
 
 -- "The work area is lent, at least 32,768 16-bit words." "Fragments have at most 2,048 words, trees for packing at most 16,384."
@@ -164,16 +166,18 @@ remade rules u = repacked (dropped (withStart (editedStart rules u) rules))
 abbrev pub updateAs : ℕ → ℕ → Update → Result (List Rule) → FileAnswer
 updateAs room work u (refused x k) = refusedFile room work x k
 updateAs room work u (taken rules) =
-    elim (firstOf (updateRefusals (treeOf rules) u))
-    [ some x ↦ refusedFile room work x 0
-    | none ↦ finished room work (length (openedAt rules (u .at) .opened)) (remade rules u) ]
+    elim (firstOf (updateRefusals (treeOf rules) u)) [
+      | some x ↦ refusedFile room work x 0
+      | none ↦ finished room work (length (openedAt rules (u .at) .opened)) (remade rules u)
+    ]
 
 -- rename, insert and delete: "20; 9; then record by record; then 8, 10, 11; then 12 to 19". `room` and `work` are the lent slices' lengths.
 unfoldable pub update : ℕ → ℕ → List ℕ → Update → FileAnswer
 update room work file u =
-    elim (ltb work leastWork)
-    [ true ↦ refusedFile room work WORK 0
-    | false ↦ updateAs room work u (read file) ]
+    elim (ltb work leastWork) [
+      | true ↦ refusedFile room work WORK 0
+      | false ↦ updateAs room work u (read file)
+    ]
 
 -- "Packing: the tree becomes the body of a single rule, then step 4." "Packing: 20, 15, 18, 19." "Packing opens 0."
 unfoldable pub packed : List ℕ → Repacked
@@ -184,6 +188,7 @@ packRefusals work tree = (ltb work leastWork, WORK) ∷ (not (treeAllowed longes
 
 unfoldable pub pack : ℕ → ℕ → List ℕ → FileAnswer
 pack room work tree =
-    elim (firstOf (packRefusals work tree))
-    [ some x ↦ refusedFile room work x 0
-    | none ↦ finished room work 0 (packed tree) ]
+    elim (firstOf (packRefusals work tree)) [
+      | some x ↦ refusedFile room work x 0
+      | none ↦ finished room work 0 (packed tree)
+    ]

@@ -82,17 +82,19 @@ ruleRefusals ranks last bytes =
 abbrev pub wholeRefusals : List Rule → List ℕ → Result (List Rule)
 wholeRefusals rules (b ∷ bs) = refused TRAIL (suc (length rules))
 wholeRefusals rules [] =
-    elim (lowestHuge 0 (expansions rules))
-    [ some r ↦ refused HUGE (suc r)
-    | none ↦ elim (eqb (nodes rules) 1) [ true ↦ refused EMPTY 0 | false ↦ taken rules ] ]
+    elim (lowestHuge 0 (expansions rules)) [
+      | some r ↦ refused HUGE (suc r)
+      | none ↦ elim (eqb (nodes rules) 1) [ true ↦ refused EMPTY 0 | false ↦ taken rules ]
+    ]
 
 -- "record by record": `due` rules are still due after `rules`. "The place is the record number (head 0, rule r is r + 1, 8 gives n + 1)."
 abbrev pub readRules : ℕ → List Rule → List ℕ → Result (List Rule)
 readRules zero rules bytes = wholeRefusals rules bytes
 readRules (suc due) rules bytes =
-    elim (firstOf (ruleRefusals (ranksOf rules) (eqb due 0) bytes))
-    [ some x ↦ refused x (suc (length rules))
-    | none ↦ readRules due (rules ++ ruleIn bytes ∷ []) (afterRecord bytes) ]
+    elim (firstOf (ruleRefusals (ranksOf rules) (eqb due 0) bytes)) [
+      | some x ↦ refused x (suc (length rules))
+      | none ↦ readRules due (rules ++ ruleIn bytes ∷ []) (afterRecord bytes)
+    ]
 
 -- "A file is at most 16,384 bytes." "9; then record by record".
 abbrev pub largestFile : ℕ
@@ -100,11 +102,13 @@ largestFile = 16384
 
 unfoldable pub read : List ℕ → Result (List Rule)
 read file =
-    elim (ltb largestFile (length file))
-    [ true ↦ refused LARGE 0
-    | false ↦ elim (firstOf (headRefusals file))
-        [ some x ↦ refused x 0
-        | none ↦ readRules (ruleCount file) [] (afterRecord file) ] ]
+    elim (ltb largestFile (length file)) [
+      | true ↦ refused LARGE 0
+      | false ↦ elim (firstOf (headRefusals file)) [
+        | some x ↦ refused x 0
+        | none ↦ readRules (ruleCount file) [] (afterRecord file)
+      ]
+    ]
 
 -- a record, and the file of a grammar
 abbrev pub recordOf : ℕ → List ℕ → List ℕ

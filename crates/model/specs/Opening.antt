@@ -34,11 +34,12 @@ pub record Opened : Type 0 where
 abbrev pub openings : ℕ → List Rule → List ℕ → ℕ → Opened
 openings zero rules ws p = record { words = ws; place = ownerOf rules ws p; opened = [] }
 openings (suc most) rules ws p =
-    elim (called (getD ws (ownerOf rules ws p) 0))
-    [ none ↦ record { words = ws; place = ownerOf rules ws p; opened = [] }
-    | some j ↦
-        let next = openings most rules (opensCall rules (ruleAt rules j) (ownerOf rules ws p) ws) p in
-        record { words = next .words; place = next .place; opened = j ∷ next .opened } ]
+    elim (called (getD ws (ownerOf rules ws p) 0)) [
+      | none ↦ record { words = ws; place = ownerOf rules ws p; opened = [] }
+      | some j ↦
+          let next = openings most rules (opensCall rules (ruleAt rules j) (ownerOf rules ws p) ws) p in
+          record { words = next .words; place = next .place; opened = j ∷ next .opened }
+    ]
 
 unfoldable pub openedAt : List Rule → ℕ → Opened
 openedAt rules p = openings (length rules) rules (startOf rules) p

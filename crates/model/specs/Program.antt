@@ -43,9 +43,10 @@ output x = answerRecord (x .answer) ++ take (x .answer .length) (x .result)
 -- "Standard input: one update record, then the file." "The program tests 21 first."
 abbrev pub runOn : List ℕ → List ℕ
 runOn bytes =
-    elim (requestRefused bytes)
-    [ true ↦ answerRecord (refusal REQUEST 0)
-    | false ↦ output (update largestFile leastWork (afterRecord bytes) (updateIn bytes)) ]
+    elim (requestRefused bytes) [
+      | true ↦ answerRecord (refusal REQUEST 0)
+      | false ↦ output (update largestFile leastWork (afterRecord bytes) (updateIn bytes))
+    ]
 
 -- "It reads at most 20,495 bytes, enough to decide every answer."
 unfoldable pub program : List ℕ → List ℕ

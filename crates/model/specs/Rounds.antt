@@ -132,9 +132,9 @@ replaced m (other ∷ ps) (w ∷ ws) = recalled (up m) w ∷ replaced m ps ws
 abbrev pub newRule : List ℕ → Digram → Rule
 newRule ranks d =
     let ys = parameters (digramRank ranks d) in
-    record
-    { rank = digramRank ranks d
-    ; body = d .a ∷ (take (d .i - 1) ys ++ d .b ∷ drop (d .i - 1) ys)
+    record {
+      rank = digramRank ranks d;
+      body = d .a ∷ (take (d .i - 1) ys ++ d .b ∷ drop (d .i - 1) ys);
     }
 
 abbrev pub replacedIn : List ℕ → Digram → List Rule → List Rule
@@ -156,9 +156,10 @@ pub record Repacked : Type 0 where
 abbrev pub roundsOf : ℕ → List Rule → Repacked
 roundsOf zero rules = record { rules = rules; rounds = 0 }
 roundsOf (suc left) rules =
-    elim (choice rules)
-    [ none ↦ record { rules = rules; rounds = 0 }
-    | some x ↦ let next = roundsOf left (oneRound (x .digram) rules) in record { rules = next .rules; rounds = suc (next .rounds) } ]
+    elim (choice rules) [
+      | none ↦ record { rules = rules; rounds = 0 }
+      | some x ↦ let next = roundsOf left (oneRound (x .digram) rules) in record { rules = next .rules; rounds = suc (next .rounds) }
+    ]
 
 unfoldable pub repacked : List Rule → Repacked
 repacked rules = roundsOf (mostRules - length rules) rules
