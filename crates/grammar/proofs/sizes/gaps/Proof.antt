@@ -1,0 +1,279 @@
+-- `grammar::sizes::gaps` meets its contract: before each word the table has the gaps of the parameters passed so far.
+use borrow.Author.Needs.{needs}
+use Prim.Native.Nat.{suc, _+_, _*_, _≤_, _<_, _-_}
+use mathlib.Core.Logic.{⊎-elim}
+use native.Mathlib.Omega.{arith}
+use denote.Ref.{now}
+use lib.ListN.{length, drop, getD, set, length-set}
+use Rattle.grammar.specs.Meaning.{rulesIn}
+use Rattle.grammar.specs.Measures.{RowsBelow}
+use Rattle.grammar.proofs.Entered.{inside, table-fits, table-short, table-words, ranks-small}
+use Rattle.grammar.proofs.GapsFound.{SoFar, so-same, start, next-room, other-word, parameter-word, finish}
+use Rattle.grammar.proofs.Tabled.{count, in-body, is-other, is-parameter, before-found}
+use Rattle.grammar.proofs.sizes.gaps.Statement.{statement}
+use Rattle.grammar.proofs.sizes.gaps.Tie as tie
+use Rattle.grammar.proofs.sizes.gaps.Reads as reads
+use Rattle.grammar.proofs.sizes.gaps.Lts as lts
+use Rattle.grammar.proofs.bodies.parameter.Reads as parameter-reads
+use Rattle.grammar.proofs.file.word_at.Reads as word-at-reads
+use Rattle.grammar.proofs.sizes.before.Reads as before-reads
+
+abbrev Inv-loop : tie.InvT-loop
+Inv-loop file n table r all sizes₀ at words last₀ m₀ i₀ sizes last m i = (i ≤ words) × SoFar (rulesIn n (drop 10 file)) r (length sizes₀) i last m sizes
+
+abbrev μ-loop : tie.MeasureT-loop
+μ-loop file n table r all sizes₀ at words last₀ m₀ i₀ sizes last m i = words - i
+
+-- rule r's entries are in the tables, and its body is in the file
+at-start : (s : tie.Start Inv-loop μ-loop)
+    → (s .args .r < 256) × (3 * s .args .r + 2 < length (now (s .args .table))) × (5 * s .args .r + 5 ≤ length (now (s .args .sizes)))
+at-start s = inside (s .args .n) (now (s .args .file)) (now (s .args .table)) (s .pre .0) (s .args .r) (s .pre .1) (now (s .args .sizes)) (s .pre .2)
+
+body-there : (s : tie.Start Inv-loop μ-loop)
+    → let table = now (s .args .table) in
+    let words = getD table (3 * s .args .r + 2) 0 in
+    (getD table (3 * s .args .r + 1) 0 + 2 * words ≤ length (now (s .args .file))) × (words ≤ 8192) × (length (now (s .args .file)) ≤ 16384)
+body-there s =
+    let n = s .args .n in
+    let file = now (s .args .file) in
+    let table = now (s .args .table) in
+    (table-fits n file table (s .pre .0) (s .args .r) (s .pre .1), table-short n file table (s .pre .0) (s .args .r) (s .pre .1), s .pre .0 .short)
+
+-- src/sizes.rt:138:20
+mul-at : tie.Need-mul-at Inv-loop μ-loop
+mul-at c = omega (arith, at-start (c .before .before .before))
+
+-- src/sizes.rt:138:20
+add-at : tie.Need-add-at Inv-loop μ-loop
+add-at c = omega (arith, at-start (c .before .before .before))
+
+-- src/sizes.rt:138:14
+mul-at-2 : tie.Need-mul-at-2 Inv-loop μ-loop
+mul-at-2 c = omega (arith, at-start (c .before .before .before))
+
+-- src/sizes.rt:138:14
+shared-slice-read-at : tie.Need-shared-slice-read-at Inv-loop μ-loop
+shared-slice-read-at c = omega (arith, at-start (c .before .before .before .before))
+
+-- src/sizes.rt:138:14
+cast-at : tie.Need-cast-at Inv-loop μ-loop
+cast-at c = omega (arith, c .shared-slice-known3 .given (3 * c .before .before .before .before .args .r + 1))
+
+-- src/sizes.rt:139:23
+mul-words : tie.Need-mul-words Inv-loop μ-loop
+mul-words c = omega (arith, at-start (c .before .before .before .before))
+
+-- src/sizes.rt:139:23
+add-words : tie.Need-add-words Inv-loop μ-loop
+add-words c = omega (arith, at-start (c .before .before .before .before))
+
+-- src/sizes.rt:139:17
+mul-words-2 : tie.Need-mul-words-2 Inv-loop μ-loop
+mul-words-2 c = omega (arith, at-start (c .before .before .before .before))
+
+-- src/sizes.rt:139:17
+shared-slice-read-words : tie.Need-shared-slice-read-words Inv-loop μ-loop
+shared-slice-read-words c = omega (arith, at-start (c .before .before .before .before .before))
+
+-- src/sizes.rt:139:17
+cast-words : tie.Need-cast-words Inv-loop μ-loop
+cast-words c = omega (arith, c .shared-slice-known4 .given (3 * c .before .before .before .before .before .args .r + 2))
+
+-- src/sizes.rt:141:17
+mul-m : tie.Need-mul-m Inv-loop μ-loop
+mul-m c = omega (arith, at-start (c .before .before .before .before .before))
+
+-- src/sizes.rt:143:5
+loop-holds : tie.Need-loop-holds Inv-loop μ-loop
+loop-holds c =
+    let s = c .before .before .before .before .before in
+    let a = s .args in (
+      omega arith,
+      start (rulesIn (a .n) (drop 10 (now (a .file)))) (s .pre .0 .is-formed) (a .r) (count (a .n) (now (a .file)) (now (a .table)) (s .pre .0) (a .r) (s .pre .1))
+          (now (a .sizes)) (s .pre .3),
+    )
+
+-- src/sizes.rt:144:41
+mul-word-at : tie.Need-mul-word-at Inv-loop μ-loop
+mul-word-at c = omega (arith, body-there (c .before .before .before .before .before .before .before))
+
+-- src/sizes.rt:144:36
+add-word-at : tie.Need-add-word-at Inv-loop μ-loop
+add-word-at c = omega (arith, body-there (c .before .before .before .before .before .before .before))
+
+-- src/sizes.rt:144:22
+word-at-requires : tie.Need-word-at-requires Inv-loop μ-loop
+word-at-requires c κs = omega (arith, body-there (c .before .before .before .before .before .before .before))
+
+-- src/sizes.rt:144:12
+parameter-requires : tie.Need-parameter-requires Inv-loop μ-loop
+parameter-requires c κs = search needs
+
+-- src/sizes.rt:145:17
+before-requires : tie.Need-before-requires Inv-loop μ-loop
+before-requires c κs =
+    let s = c .before .before .before .before .before .before .before .before .before .before .before in
+    let l = c .before .before .before .before .before .loop in (
+      omega (arith, body-there s),
+      omega (arith, body-there s),
+      omega (arith, l .inv .1 .long, s .pre .2),
+      l .inv .1 .small,
+      omega (arith, at-start s),
+      ranks-small (s .args .n) (now (s .args .file)) (now (s .args .table)) (s .pre .0) (s .args .r) (omega (arith, s .pre .1)),
+    )
+
+-- the next gap has its place
+room-left : (c : tie.At-loop Inv-loop μ-loop) → (c .loop .m < 1280) × (c .loop .m < length (c .loop .sizes))
+room-left c =
+    let s = c .before .before .before .before .before .before in
+    let a = s .args in
+    let l = c .loop in
+    let M = s .pre .0 in
+    let h =
+    next-room (rulesIn (a .n) (drop 10 (now (a .file)))) (M .is-formed) (a .r) (count (a .n) (now (a .file)) (now (a .table)) M (a .r) (s .pre .1))
+    (length (now (a .sizes))) (at-start s .2) (l .i) (l .last) (l .m) (l .sizes) (l .inv .1) in
+    (omega (arith, at-start s), omega (arith, at-start s, l .inv .1 .long))
+
+-- a parameter: what stands before it, and with it the next gap
+found : (c : tie.After-before2 Inv-loop μ-loop)
+    → let l = c .before .before .before .before .before .before .loop in
+    let a = c .before .before .before .before .before .before .before .before .before .before .before .before .args in
+    let b = c .before2 .result in
+    (l .last ≤ b) × SoFar (rulesIn (a .n) (drop 10 (now (a .file)))) (a .r) (length (now (a .sizes))) (l .i + 1) b (l .m + 1) (set (l .sizes) (l .m) (b - l .last))
+found c =
+    let s = c .before .before .before .before .before .before .before .before .before .before .before .before in
+    let a = s .args in
+    let M = s .pre .0 in
+    let file = now (a .file) in
+    let table = now (a .table) in
+    let l = c .before .before .before .before .before .before .loop in
+    let here : l .i < getD table (3 * a .r + 2) 0 = omega arith in
+    let p =
+    is-parameter (a .n) file table M (a .r) (s .pre .1) (l .i) here (c .before .before .before .before .word-at .result) (c .before .before .before .parameter .result)
+    (c .before .before .before .before .word-at .ensures) (c .before .before .before .parameter .ensures) (c .before .before .if1 .taken) in
+    let len = length (now (a .sizes)) in
+    let b = c .before2 .result in
+    let q = before-found (a .n) file table M (a .r) (s .pre .1) (l .i) here len (l .last) (l .m) (l .sizes) (l .inv .1) p b (c .before2 .ensures .0) in
+    parameter-word (rulesIn (a .n) (drop 10 file)) (M .is-formed) (a .r) (count (a .n) file table M (a .r) (s .pre .1)) len
+    (at-start s .2)
+    (l .i) (l .last) (l .m) (l .sizes) (l .inv .1) (omega (arith, s .pre .4, s .pre .5))
+    (in-body (a .n) file table M (a .r) (s .pre .1) (l .i) here) p b q
+
+-- src/sizes.rt:146:24
+sub-sizes : tie.Need-sub-sizes Inv-loop μ-loop
+sub-sizes c = found c .0
+
+-- src/sizes.rt:146:13
+mul-sizes : tie.Need-mul-sizes Inv-loop μ-loop
+mul-sizes c = omega (arith, room-left (c .before .before .before .before .before .before))
+
+-- src/sizes.rt:146:13
+slice-write-sizes : tie.Need-slice-write-sizes Inv-loop μ-loop
+slice-write-sizes c = omega (arith, room-left (c .before .before .before .before .before .before))
+
+-- src/sizes.rt:148:13
+add-m : tie.Need-add-m Inv-loop μ-loop
+add-m c = omega (arith, room-left (c .before .before .before .before .before .before))
+
+-- src/sizes.rt:150:9
+add-i : tie.Need-add-i Inv-loop μ-loop
+add-i c = omega (arith, body-there (c .before .before .before .before .before .before .before .before .before .before))
+
+-- src/sizes.rt:143:5
+loop-less : tie.Need-loop-less Inv-loop μ-loop
+loop-less c = omega arith
+
+-- src/sizes.rt:143:5
+loop-again : tie.Need-loop-again Inv-loop μ-loop
+loop-again c =
+    ⊎-elim
+    (λ w.
+    let d : tie.After-before2 Inv-loop μ-loop = record { before = record { before = record { before = c .before; if1 = w .0 }; before-arg = w .1 }; before2 = w .2 } in
+    (omega arith, so-same (found d .1) (w .3) (w .4) (w .5)))
+    (λ w.
+    let s = c .before .before .before .before .before .before .before .before .before .before in
+    let a = s .args in
+    let M = s .pre .0 in
+    let file = now (a .file) in
+    let table = now (a .table) in
+    let l = c .before .before .before .before .loop in
+    let here : l .i < getD table (3 * a .r + 2) 0 = omega arith in
+    let p =
+    is-other (a .n) file table M (a .r) (s .pre .1) (l .i) here (c .before .before .word-at .result) (c .before .parameter .result)
+    (c .before .before .word-at .ensures) (c .before .parameter .ensures) (w .0 .left) in
+    let S =
+    other-word (rulesIn (a .n) (drop 10 file)) (M .is-formed) (a .r) (count (a .n) file table M (a .r) (s .pre .1)) (length (now (a .sizes)))
+    (at-start s .2) (l .i) (l .last) (l .m) (l .sizes) (l .inv .1)
+    (in-body (a .n) file table M (a .r) (s .pre .1) (l .i) here) p in
+    (omega arith, so-same S (w .1) (w .2) (w .3)))
+    (c .if1 .came)
+
+-- after the last word
+finished : (c : tie.After-loop Inv-loop μ-loop)
+    → let l = c .before .loop in
+    let a = c .before .before .before .before .before .before .before .args in
+    (l .last ≤ a .all) × RowsBelow (suc (a .r)) (rulesIn (a .n) (drop 10 (now (a .file)))) (set (l .sizes) (l .m) (a .all - l .last))
+finished c =
+    let s = c .before .before .before .before .before .before .before in
+    let a = s .args in
+    let M = s .pre .0 in
+    let l = c .before .loop in
+    finish (rulesIn (a .n) (drop 10 (now (a .file)))) (M .is-formed) (a .r) (count (a .n) (now (a .file)) (now (a .table)) M (a .r) (s .pre .1)) (length (now (a .sizes)))
+    (at-start s .2) (l .i) (l .last) (l .m) (l .sizes) (l .inv .1) (omega (arith, s .pre .4, s .pre .5))
+    (omega (arith, table-words (a .n) (now (a .file)) (now (a .table)) M (a .r) (s .pre .1))) (a .all) (s .pre .4)
+
+-- src/sizes.rt:152:16
+sub-sizes-2 : tie.Need-sub-sizes-2 Inv-loop μ-loop
+sub-sizes-2 c = finished c .0
+
+-- src/sizes.rt:152:5
+mul-sizes-2 : tie.Need-mul-sizes-2 Inv-loop μ-loop
+mul-sizes-2 c = omega (arith, room-left (c .before))
+
+-- src/sizes.rt:152:5
+slice-write-sizes-2 : tie.Need-slice-write-sizes-2 Inv-loop μ-loop
+slice-write-sizes-2 c = omega (arith, room-left (c .before))
+
+-- src/sizes.rt:133:1
+same-length : tie.Need-same-length Inv-loop μ-loop
+same-length c = simp length-set (c .before .loop .inv .1 .long)
+
+-- src/sizes.rt:133:1
+returns : tie.Need-returns Inv-loop μ-loop
+returns c = finished c .1
+
+pub gaps-spec : {M : Type 1} → statement M
+gaps-spec =
+    tie.close
+    (tie.spec
+    Inv-loop
+    μ-loop
+    mul-at
+    add-at
+    mul-at-2
+    shared-slice-read-at
+    cast-at
+    mul-words
+    add-words
+    mul-words-2
+    shared-slice-read-words
+    cast-words
+    mul-m
+    loop-holds
+    mul-word-at
+    add-word-at
+    word-at-requires
+    parameter-requires
+    before-requires
+    sub-sizes
+    mul-sizes
+    slice-write-sizes
+    add-m
+    add-i
+    loop-less
+    loop-again
+    sub-sizes-2
+    mul-sizes-2
+    slice-write-sizes-2
+    same-length
+    returns)
