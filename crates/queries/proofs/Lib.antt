@@ -1,0 +1,12 @@
+pub mod Stops
+pub mod Woven
+pub mod Spelling
+pub mod Closing
+pub mod RuleSpelled
+pub mod Walking
+pub mod WalkTurns
+pub mod HeldRules
+pub mod SpellTurns
+pub mod SpellRule
+pub mod SpellFile
+pub mod Windows

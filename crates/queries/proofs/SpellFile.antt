@@ -1,0 +1,135 @@
+-- The turns over the body of a rule of a file, in the numbers that the code has.
+use Prim.Native.Nat.{ℕ, suc, _+_, _*_, _-_, _≤_, _<_}
+use native.Mathlib.Omega.{arith}
+use native.Mathlib.Numerals.{add-one}
+use mathlib.Core.Path.{_≡_, sym, ap, ap₂, subst, _∙_}
+use mathlib.Core.Bool.{true}
+use mathlib.Core.List.{List, [], _∷_, map}
+use lib.ListN.{length, drop, getD, set, length-set}
+use Rattle.model.specs.Words.{rankOf, isParameter}
+use Rattle.model.specs.Trees.{expansions, ranksOf}
+use Rattle.laws.specs.Formed.{bodyAt}
+use Rattle.grammar.specs.Meaning.{wordIn, ranksIn}
+use Rattle.grammar.proofs.BodyWords.{body-rest}
+use Rattle.queries.specs.Pieces.{stop, stopped, after, Closes, Closable, firstGap, ownPieces, ownTop, ownGap, ownStarts}
+use Rattle.queries.specs.Building.{rulesOf, gapsOf, Held, Spelt}
+use Rattle.queries.proofs.HeldRules.{few, rule-words, rule-fits, rule-body, rule-next, ranks-are, small-ranks, gap-measured, rule-expansion, rule-gaps, body-legal, body-fits, body-room, body-parameters}
+use Rattle.queries.proofs.SpellRule.{Turn, put-fits, start-fits, depth-fits, entry-fits, closable, turned, turn-start, end-fits, rule-done, rank-four}
+
+-- the turns over rule r
+abbrev pub RuleTurn : List ℕ → ℕ → ℕ → ℕ → List ℕ → List ℕ → List ℕ → List ℕ → ℕ → ℕ → ℕ → ℕ → Type 0
+RuleTurn file r top deepest sizes P S O t gap depth i =
+    Turn (gapsOf file) (ranksOf (rulesOf file)) (map stopped (getD (expansions (rulesOf file)) r [])) (bodyAt (rulesOf file) r) r top deepest sizes P S O t gap depth i
+
+module _ {file : List ℕ} {n r : ℕ} {table sizes P₀ S₀ : List ℕ} {top deepest : ℕ} (s : Spelt file n r table sizes P₀ S₀ top) (below : r < n) (deep : 8192 ≤ deepest) where
+  abbrev H : Held file n table sizes
+  H = s .held
+
+  abbrev at : ℕ
+  at = getD table (3 * r + 1) 0
+
+  abbrev words : ℕ
+  words = getD table (3 * r + 2) 0
+
+  pub rule-low : r < 256
+  rule-low = omega (arith, few H)
+
+  pub in-table : 3 * r + 2 < length table
+  in-table = omega (arith, few H, H .long)
+
+  pub place-fits : (at + 2 * words ≤ length file) × (length file ≤ 16384)
+  place-fits = (rule-fits H r below, H .short)
+
+  same-words : words ≡ length (bodyAt (rulesOf file) r)
+  same-words = rule-words H r below
+
+  room : top + 2 * length (bodyAt (rulesOf file) r) + 18 ≤ 16384
+  room = omega (arith, s .room below, place-fits, same-words)
+
+  deep-enough : length (bodyAt (rulesOf file) r) ≤ deepest
+  deep-enough = omega (arith, place-fits, same-words)
+
+  pub first-turn : (O : List ℕ) → length O ≡ deepest → RuleTurn file r top deepest sizes P₀ (set S₀ (5 * r) top) O top (5 * r) 0 0
+  first-turn O lo =
+      turn-start (small-ranks H) rule-low room deep-enough (rule-gaps H r) (H .wide) P₀ S₀ O (s .pieces-long) (s .long) lo (s .low) (s .spells)
+      (body-parameters H r below) (body-legal H r below) (body-fits H r below) (body-room H r below) (rule-expansion H r below)
+
+  module _ {P S O : List ℕ} {t gap depth i : ℕ} (x : RuleTurn file r top deepest sizes P S O t gap depth i) where
+    pub turns-within : i ≤ words
+    turns-within = omega (arith, x .within, same-words)
+
+    module _ (more : i < words) (w : ℕ) (we : w ≡ wordIn file (at + 2 * i)) where
+      this : drop i (bodyAt (rulesOf file) r) ≡ w ∷ drop (i + 1) (bodyAt (rulesOf file) r)
+      this =
+          ap (drop i) (sym (rule-body H r below)) ∙ body-rest file at words (place-fits .0) i more
+          ∙ ap₂ (λ (v : ℕ) (l : List ℕ). v ∷ drop (i + 1) l) (sym we) (rule-body H r below)
+
+      pub word-fits : t < length P
+      word-fits = put-fits (small-ranks H) rule-low room deep-enough (rule-gaps H r) (H .wide) x w this
+
+      pub gap-fits : (gap < 1280) × (isParameter w ≡ true → gap + 1 < length S)
+      gap-fits = (
+        omega (arith, x .gap-is, x .few, rule-low),
+        start-fits (small-ranks H) rule-low room deep-enough (rule-gaps H r) (H .wide) x w this,
+      )
+
+      pub open-fits : depth < length O
+      open-fits = depth-fits (small-ranks H) rule-low room deep-enough (rule-gaps H r) (H .wide) x w this
+
+      module _ (k : ℕ) (ke : k ≡ rankOf (ranksIn n table) w) where
+        rank-is : k ≡ rankOf (ranksOf (rulesOf file)) w
+        rank-is = ke ∙ ap (λ (l : List ℕ). rankOf l w) (ranks-are H)
+
+        pub rank-small : k ≤ 4
+        rank-small = omega (arith, rank-is, rank-four (ranksOf (rulesOf file)) (small-ranks H) w)
+
+        module _ (g : ℕ) (ge : g ≡ firstGap w) where
+          entry-is : 2048 * (k + 1) + g ≡ 2048 * (rankOf (ranksOf (rulesOf file)) w + 1) + firstGap w
+          entry-is = ap₂ (λ (a b : ℕ). 2048 * (a + 1) + b) rank-is ge
+
+          pub entry-small : 2048 * (k + 1) + g < 65536
+          entry-small = omega (arith, entry-is, entry-fits (small-ranks H) rule-low room deep-enough (rule-gaps H r) (H .wide) x w this)
+
+          module _ (P₁ S₁ : List ℕ) (t₁ gap₁ : ℕ) (te : t₁ ≡ ownTop w t) (gape : gap₁ ≡ ownGap w gap) (pe : P₁ ≡ ownPieces w P t) (se : S₁ ≡ ownStarts w S gap t) where
+            pub close-asks : Closable sizes S₁ P₁ (set O depth (2048 * (k + 1) + g)) t₁ (depth + 1)
+            close-asks =
+                subst (λ (l : List ℕ). Closable sizes l P₁ (set O depth (2048 * (k + 1) + g)) t₁ (depth + 1)) (sym se)
+                (subst (λ (l : List ℕ). Closable sizes (ownStarts w S gap t) l (set O depth (2048 * (k + 1) + g)) t₁ (depth + 1)) (sym pe)
+                (subst (λ (v : ℕ). Closable sizes (ownStarts w S gap t) (ownPieces w P t) (set O depth (2048 * (k + 1) + g)) v (depth + 1)) (sym te)
+                (closable (small-ranks H) rule-low room deep-enough (rule-gaps H r) (H .wide) x w this (2048 * (k + 1) + g) entry-is)))
+
+            pub next-turn : (P₂ O₂ : List ℕ) (t₂ d₂ : ℕ) → Closes after S₁ sizes P₁ (set O depth (2048 * (k + 1) + g)) t₁ (depth + 1) P₂ O₂ t₂ d₂
+                → RuleTurn file r top deepest sizes P₂ S₁ O₂ t₂ gap₁ d₂ (i + 1)
+            next-turn P₂ O₂ t₂ d₂ c =
+                let O₁ = set O depth (2048 * (k + 1) + g) in
+                let c₁ : Closes after (ownStarts w S gap t) sizes P₁ O₁ t₁ (depth + 1) P₂ O₂ t₂ d₂ = subst (λ (l : List ℕ). Closes after l sizes P₁ O₁ t₁ (depth + 1) P₂ O₂ t₂ d₂) se c in
+                let c₂ : Closes after (ownStarts w S gap t) sizes (ownPieces w P t) O₁ t₁ (depth + 1) P₂ O₂ t₂ d₂ =
+                subst (λ (l : List ℕ). Closes after (ownStarts w S gap t) sizes l O₁ t₁ (depth + 1) P₂ O₂ t₂ d₂) pe c₁ in
+                let c₃ : Closes after (ownStarts w S gap t) sizes (ownPieces w P t) O₁ (ownTop w t) (depth + 1) P₂ O₂ t₂ d₂ =
+                subst (λ (v : ℕ). Closes after (ownStarts w S gap t) sizes (ownPieces w P t) O₁ v (depth + 1) P₂ O₂ t₂ d₂) te c₂ in
+                subst (λ (v : ℕ). RuleTurn file r top deepest sizes P₂ S₁ O₂ t₂ v d₂ (i + 1)) (sym gape)
+                (subst (λ (l : List ℕ). RuleTurn file r top deepest sizes P₂ l O₂ t₂ (ownGap w gap) d₂ (i + 1)) (sym se)
+                (turned (small-ranks H) rule-low room deep-enough (rule-gaps H r) (H .wide) x w this (2048 * (k + 1) + g) entry-is c₃))
+
+    module _ (over : words ≤ i) where
+      no-more : length (bodyAt (rulesOf file) r) ≤ i
+      no-more = omega (arith, same-words)
+
+      pub stop-fits : t < length P
+      stop-fits = end-fits (small-ranks H) rule-low room deep-enough (rule-gaps H r) (H .wide) x no-more
+
+      pub rule-over : Spelt file n (suc r) table sizes (set P t stop) S (t + 1)
+      rule-over =
+          let d = rule-done (small-ranks H) rule-low room deep-enough (rule-gaps H r) (H .wide) x no-more (λ c h. gap-measured H r c below h) in
+          record {
+            held = H;
+            spells = d .0;
+            long = x .starts-long;
+            low = d .1;
+            pieces-long = length-set P t stop ∙ x .pieces-long;
+            room = λ h. omega (arith, d .2, same-words, s .room below, rule-next H r below h);
+            fits = omega (arith, d .2, room);
+          }
+
+pub one-more : {file : List ℕ} {n r : ℕ} {table sizes P S : List ℕ} {t : ℕ} → Spelt file n (suc r) table sizes P S t → Spelt file n (r + 1) table sizes P S t
+one-more {file} {n} {r} {table} {sizes} {P} {S} {t} s = subst (λ (k : ℕ). Spelt file n k table sizes P S t) (sym (add-one r)) s
