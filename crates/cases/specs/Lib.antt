@@ -1,0 +1,4 @@
+pub mod Records
+pub mod Progress
+pub mod Reports
+pub mod Reference

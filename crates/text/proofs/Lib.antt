@@ -1,0 +1,5 @@
+pub mod Putting
+pub mod Decimals
+pub mod ReadingDigits
+pub mod Places
+pub mod Names
