@@ -1,37 +1,29 @@
 -- What the two tables of a file that was read say of one of its rules, and of its gaps.
-use Prim.Native.Nat.{ℕ, zero, suc, _+_, _*_, _-_, _≤_, _<_}
+use Prim.Native.Nat.{ℕ, zero, suc, _+_, _*_, _-_, _≤_, _<_, _^_}
 use native.Mathlib.Omega.{arith}
-use mathlib.Core.Path.{_≡_, refl, sym, ap, ap₂, _∙_}
+use mathlib.Core.Path.{_≡_, refl, sym, ap, ap₂, _∙_, subst}
 use mathlib.Core.Bool.{Bool, true, false}
-use mathlib.Core.List.{List, [], _∷_, _++_, map, append-assoc}
+use mathlib.Core.List.{List, [], _∷_, map}
 use lib.Dec.{T, ltb}
 use lib.ListN.{length, getD, replicate, List·getD-append, List·getD-eq-default}
-use lib.Seq.{ext-getD, getD-take, getD-append-add}
 use borrow.Author.Tests.{ltb-true, ltb-false}
 use Rattle.model.specs.Words.{rankOf, isParameter}
-use Rattle.model.specs.Trees.{Rule, all, those, isLegal, gapSizes, expansions, ranksOf, fold, join}
-use Rattle.laws.specs.Formed.{Fits, Tree, bodyAt, height}
+use Rattle.model.specs.Trees.{Rule, size, all, those, isLegal, expansions, ranksOf, fold, join}
+use Rattle.laws.specs.Formed.{formed, Fits, Tree, bodyAt, height}
 use Rattle.laws.specs.Sums.{sumOf}
 use Rattle.laws.proofs.Fills.{length-parametersFrom}
 use Rattle.laws.proofs.Grown.{grownWord}
-use Rattle.laws.proofs.Grammar.{rule-of, formed-parts, formed-env, expansions-solve, expansion-tree}
+use Rattle.laws.proofs.Grammar.{rule-of, formed-env, expansions-solve, expansion-tree}
 use Rattle.laws.proofs.Grammar as grammar
-use Rattle.grammar.specs.Meaning.{bodyIn, entries, placeAfter, ranksIn, RanksSmall}
-use Rattle.grammar.specs.Measures.{gapRow, gapRows}
-use Rattle.grammar.proofs.Entered.{EntryOf, entry-of}
-use Rattle.grammar.proofs.Tables.{rank-in, length-ranks}
+use Rattle.grammar.specs.Meaning.{bodyIn, entries, Bodies, placeAfter, padded, ranksIn}
+use Rattle.grammar.specs.Measures.{gapRows, Denotes}
+use Rattle.model.specs.Refusals.{taken}
+use Rattle.grammar.proofs.Denoted as denoted
 use Rattle.grammar.proofs.RuleLists.{length-entries}
-use Rattle.grammar.proofs.Rows.{length-row}
 use Rattle.queries.specs.Pieces.{stopped, unstopped, upTo, pastAll, over}
-use Rattle.queries.specs.Building.{rulesOf, gapsOf, Held}
+use Rattle.queries.specs.Building.{rulesTaken, rulesOf, gapsOf}
 use Rattle.queries.proofs.Stops.{gap-at, gap-size, gap-none, gap-plain}
 use Rattle.queries.proofs.Woven.{expand-over}
-
--- nothing but 0
-pub zeros-at : (m c : ℕ) → getD (replicate {A = ℕ} m 0) c 0 ≡ 0
-zeros-at zero c = refl
-zeros-at (suc m) zero = refl
-zeros-at (suc m) (suc c) = zeros-at m c
 
 -- where the next rule's body stands
 entries-next : (place : ℕ) (rules : List Rule) (r : ℕ) → suc r < length rules
@@ -48,58 +40,52 @@ entries-next place (x ∷ y ∷ rs) (suc r) h =
     ∙ entries-next (place + 2 * length (x .body) + 8) (y ∷ rs) r (omega arith)
     ∙ ap₂ (λ (k l : ℕ). getD (entries place (x ∷ y ∷ rs)) k 0 + 2 * getD (entries place (x ∷ y ∷ rs)) l 0 + 8) (sym b) (sym c)
 
--- the rows of the size table
-row-entry : (es : List (List ℕ)) (rest : List ℕ) (j c : ℕ) → j < length es → c < 5 → getD (gapRows es ++ rest) (5 * j + c) 0 ≡ getD (gapRow (getD es j [])) c 0
-row-entry [] rest j c h k = absurd (omega arith)
-row-entry (e ∷ es) rest zero c h k =
-    let z : 5 * 0 + c ≡ c = omega arith in
-    ap₂ (λ (l : List ℕ) (i : ℕ). getD l i 0) (append-assoc (gapRow e) (gapRows es) rest) z
-    ∙ List·getD-append (gapRow e) (gapRows es ++ rest) 0 c (omega (arith, length-row e))
-row-entry (e ∷ es) rest (suc j) c h k =
-    let z : 5 * suc j + c ≡ length (gapRow e) + (5 * j + c) = omega (arith, length-row e) in
-    ap₂ (λ (l : List ℕ) (i : ℕ). getD l i 0) (append-assoc (gapRow e) (gapRows es) rest) z
-    ∙ getD-append-add (gapRow e) (gapRows es ++ rest) (5 * j + c) 0
-    ∙ row-entry es rest j c (omega arith) k
-
 -- a word of a tree and what it adds: twice the words, less the trees
 pub sum-ranks : (rk : ℕ → ℕ) (ws : List ℕ) → Fits rk 0 ws → sumOf (λ w. suc (rk w)) ws + height rk 0 ws ≡ 2 * length ws
 sum-ranks rk [] f = refl
 sum-ranks rk (w ∷ ws) f = let l = f .0 in omega (arith, sum-ranks rk ws (f .1))
 
-module _ {file : List ℕ} {n : ℕ} {table sizes : List ℕ} (H : Held file n table sizes) where
+-- what a file denotes, with its rules by name
+abbrev pub named : {file : List ℕ} {n : ℕ} {table sizes : List ℕ} → Denotes file n table sizes → Denotes file n table sizes
+named {file} {n} {table} {sizes} d =
+    let e : d .rules ≡ rulesOf file = sym (ap rulesTaken (d .is)) in
+    record {
+      rules = rulesOf file;
+      is = d .is ∙ ap taken e;
+      is-formed = subst (λ (rs : List Rule). T (formed rs)) e (d .is-formed);
+      bounded = subst (λ (rs : List Rule). (j : ℕ) → j < length rs → size (getD (expansions rs) j []) ≤ 2 ^ 40) e (d .bounded);
+      count = ap length (sym e) ∙ d .count;
+      some = d .some;
+      few = d .few;
+      long = d .long;
+      entered = d .entered ∙ ap (λ (rs : List Rule). padded (length table) (entries 18 rs)) e;
+      longer = d .longer;
+      gaps = d .gaps ∙ ap (λ (rs : List Rule). padded (length sizes) (gapRows (expansions rs))) e;
+      small = d .small;
+      bodies = subst (Bodies file 18) e (d .bodies);
+      within = subst (λ (rs : List Rule). placeAfter 18 rs ≤ length file + 8) e (d .within);
+      short = d .short;
+    }
+
+module _ {file : List ℕ} {n : ℕ} {table sizes : List ℕ} (D : Denotes file n table sizes) where
+  abbrev H : Denotes file n table sizes
+  H = named D
+
   abbrev R : List Rule
   R = rulesOf file
 
   abbrev E : List (List ℕ)
   E = expansions R
 
-  pub few : n ≤ 256
-  few = omega (arith, formed-parts R (H .is-formed) .not-many, H .count)
-
-  pub some : 1 ≤ n
-  some = omega (arith, formed-parts R (H .is-formed) .some, H .count)
-
   entered-at : (k : ℕ) → k < 3 * n → getD table k 0 ≡ getD (entries 18 R) k 0
   entered-at k h = ap (λ (l : List ℕ). getD l k 0) (H .entered) ∙ List·getD-append (entries 18 R) (replicate (length table - length (entries 18 R)) 0) 0 k (omega (arith, length-entries 18 R, H .count))
 
   module _ (r : ℕ) (below : r < n) where
-    entry : EntryOf file R (placeAfter 18 R) (entries 18 R) r
-    entry = entry-of file 18 R (H .bodies) r (omega (arith, H .count))
-
-    pub rule-rank : getD table (3 * r) 0 ≡ getD (ranksOf R) r 0
-    rule-rank = entered-at (3 * r) (omega arith) ∙ entry .rank
-
     pub rule-words : getD table (3 * r + 2) 0 ≡ length (bodyAt R r)
-    rule-words = entered-at (3 * r + 2) (omega arith) ∙ entry .words
-
-    pub rule-fits : getD table (3 * r + 1) 0 + 2 * getD table (3 * r + 2) 0 ≤ length file
-    rule-fits = omega (arith, rule-words, entered-at (3 * r + 1) (omega arith), entry .within, H .within)
+    rule-words = denoted.words-are H r below
 
     pub rule-body : bodyIn file (getD table (3 * r + 1) 0) (getD table (3 * r + 2) 0) ≡ bodyAt R r
-    rule-body =
-        ap (bodyIn file (getD table (3 * r + 1) 0)) rule-words
-        ∙ ap (λ (p : ℕ). bodyIn file p (length (bodyAt R r))) (entered-at (3 * r + 1) (omega arith))
-        ∙ entry .body
+    rule-body = denoted.body-is H r below
 
     pub rule-next : suc r < n → getD table (3 * suc r + 1) 0 ≡ getD table (3 * r + 1) 0 + 2 * getD table (3 * r + 2) 0 + 8
     rule-next h =
@@ -107,16 +93,14 @@ module _ {file : List ℕ} {n : ℕ} {table sizes : List ℕ} (H : Held file n t
         ∙ ap₂ (λ (a b : ℕ). a + 2 * b + 8) (sym (entered-at (3 * r + 1) (omega arith))) (sym (entered-at (3 * r + 2) (omega arith)))
 
   pub first-place : getD table 1 0 ≡ 18
-  first-place = entered-at 1 (omega (arith, some)) ∙ one R (omega (arith, some, H .count))
+  first-place = entered-at 1 (omega (arith, D .some)) ∙ one R (omega (arith, D .some, H .count))
     where
       one : (rs : List Rule) → 1 ≤ length rs → getD (entries 18 rs) 1 0 ≡ 18
       one [] h = absurd (omega arith)
       one (x ∷ rs) h = refl
 
   pub ranks-are : ranksIn n table ≡ ranksOf R
-  ranks-are =
-      ext-getD 0 (ranksIn n table) (ranksOf R) (length-ranks n table ∙ sym (H .count) ∙ sym (grammar.length-ranks R))
-      (λ j h. let l : j < n = omega (arith, length-ranks n table) in rank-in n table j l ∙ rule-rank j l)
+  ranks-are = denoted.ranks-are H
 
   pub small-ranks : (j : ℕ) → getD (ranksOf R) j 0 ≤ 4
   small-ranks j = go (ltb j n) refl
@@ -124,9 +108,6 @@ module _ {file : List ℕ} {n : ℕ} {table sizes : List ℕ} (H : Held file n t
       go : (b : Bool) → ltb j n ≡ b → getD (ranksOf R) j 0 ≤ 4
       go true e = rule-of R (H .is-formed) j (omega (arith, H .count, ltb-true j n e)) .rank-small
       go false e = omega (arith, List·getD-eq-default (ranksOf R) 0 {n = j} (omega (arith, grammar.length-ranks R, H .count, ltb-false j n e)))
-
-  pub ranks-small : RanksSmall n table
-  ranks-small j l = omega (arith, rule-rank j l, small-ranks j)
 
   pub grown : (j : ℕ) → T (all grownWord (getD E j []))
   grown j = go (ltb j n) refl
@@ -136,22 +117,11 @@ module _ {file : List ℕ} {n : ℕ} {table sizes : List ℕ} (H : Held file n t
       go false e = rw (List·getD-eq-default E [] {n = j} (omega (arith, expansions-solve R (H .is-formed) .0, H .count, ltb-false j n e))) tt
 
   pub none-over : (g : ℕ) → 1280 ≤ g → gapsOf file g ≡ []
-  none-over g h = gap-none E g (omega (arith, few, H .count, expansions-solve R (H .is-formed) .0))
+  none-over g h = gap-none E g (omega (arith, D .few, H .count, expansions-solve R (H .is-formed) .0))
 
   -- the size table has the gaps' sizes
   pub gap-measured : (j c : ℕ) → j < n → c < 5 → getD sizes (5 * j + c) 0 ≡ length (gapsOf file (5 * j + c))
-  gap-measured j c h k =
-      let e = getD E j [] in
-      ap (λ (l : List ℕ). getD l (5 * j + c) 0) (H .gaps)
-      ∙ row-entry E (replicate (length sizes - length (gapRows E)) 0) j c (omega (arith, expansions-solve R (H .is-formed) .0, H .count)) k
-      ∙ getD-take 5 (gapSizes e ++ replicate 5 0) c 0 k
-      ∙ padded-at (gapSizes e) 5 c
-      ∙ gap-size E j c k (grown j)
-    where
-      padded-at : (gs : List ℕ) (m c : ℕ) → getD (gs ++ replicate m 0) c 0 ≡ getD gs c 0
-      padded-at [] m c = zeros-at m c
-      padded-at (g ∷ gs) m zero = refl
-      padded-at (g ∷ gs) m (suc c) = padded-at gs m c
+  gap-measured j c h k = denoted.gap-is H j h c k ∙ gap-size E j c k (grown j)
 
   -- the expansion of rule r, with stops, from its body
   pub rule-expansion : (r : ℕ) → r < n

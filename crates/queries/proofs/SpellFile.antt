@@ -10,10 +10,12 @@ use Rattle.model.specs.Words.{rankOf, isParameter}
 use Rattle.model.specs.Trees.{expansions, ranksOf}
 use Rattle.laws.specs.Formed.{bodyAt}
 use Rattle.grammar.specs.Meaning.{wordIn, ranksIn}
+use Rattle.grammar.specs.Measures.{Denotes}
 use Rattle.grammar.proofs.BodyWords.{body-rest}
+use Rattle.grammar.proofs.Denoted as denoted
 use Rattle.queries.specs.Pieces.{stop, stopped, after, Closes, Closable, firstGap, ownPieces, ownTop, ownGap, ownStarts}
-use Rattle.queries.specs.Building.{rulesOf, gapsOf, Held, Spelt}
-use Rattle.queries.proofs.HeldRules.{few, rule-words, rule-fits, rule-body, rule-next, ranks-are, small-ranks, gap-measured, rule-expansion, rule-gaps, body-legal, body-fits, body-room, body-parameters}
+use Rattle.queries.specs.Building.{rulesOf, gapsOf, Spelt}
+use Rattle.queries.proofs.HeldRules.{rule-words, rule-body, rule-next, ranks-are, small-ranks, gap-measured, rule-expansion, rule-gaps, body-legal, body-fits, body-room, body-parameters}
 use Rattle.queries.proofs.SpellRule.{Turn, put-fits, start-fits, depth-fits, entry-fits, closable, turned, turn-start, end-fits, rule-done, rank-four}
 
 -- the turns over rule r
@@ -22,7 +24,7 @@ RuleTurn file r top deepest sizes P S O t gap depth i =
     Turn (gapsOf file) (ranksOf (rulesOf file)) (map stopped (getD (expansions (rulesOf file)) r [])) (bodyAt (rulesOf file) r) r top deepest sizes P S O t gap depth i
 
 module _ {file : List ℕ} {n r : ℕ} {table sizes P₀ S₀ : List ℕ} {top deepest : ℕ} (s : Spelt file n r table sizes P₀ S₀ top) (below : r < n) (deep : 8192 ≤ deepest) where
-  abbrev H : Held file n table sizes
+  abbrev H : Denotes file n table sizes
   H = s .held
 
   abbrev at : ℕ
@@ -32,13 +34,13 @@ module _ {file : List ℕ} {n r : ℕ} {table sizes P₀ S₀ : List ℕ} {top d
   words = getD table (3 * r + 2) 0
 
   pub rule-low : r < 256
-  rule-low = omega (arith, few H)
+  rule-low = omega (arith, H .few)
 
   pub in-table : 3 * r + 2 < length table
-  in-table = omega (arith, few H, H .long)
+  in-table = omega (arith, H .few, H .long)
 
   pub place-fits : (at + 2 * words ≤ length file) × (length file ≤ 16384)
-  place-fits = (rule-fits H r below, H .short)
+  place-fits = (denoted.body-fits H r below, H .short)
 
   same-words : words ≡ length (bodyAt (rulesOf file) r)
   same-words = rule-words H r below
@@ -51,7 +53,7 @@ module _ {file : List ℕ} {n r : ℕ} {table sizes P₀ S₀ : List ℕ} {top d
 
   pub first-turn : (O : List ℕ) → length O ≡ deepest → RuleTurn file r top deepest sizes P₀ (set S₀ (5 * r) top) O top (5 * r) 0 0
   first-turn O lo =
-      turn-start (small-ranks H) rule-low room deep-enough (rule-gaps H r) (H .wide) P₀ S₀ O (s .pieces-long) (s .long) lo (s .low) (s .spells)
+      turn-start (small-ranks H) rule-low room deep-enough (rule-gaps H r) (H .longer) P₀ S₀ O (s .pieces-long) (s .long) lo (s .low) (s .spells)
       (body-parameters H r below) (body-legal H r below) (body-fits H r below) (body-room H r below) (rule-expansion H r below)
 
   module _ {P S O : List ℕ} {t gap depth i : ℕ} (x : RuleTurn file r top deepest sizes P S O t gap depth i) where
@@ -65,16 +67,16 @@ module _ {file : List ℕ} {n r : ℕ} {table sizes P₀ S₀ : List ℕ} {top d
           ∙ ap₂ (λ (v : ℕ) (l : List ℕ). v ∷ drop (i + 1) l) (sym we) (rule-body H r below)
 
       pub word-fits : t < length P
-      word-fits = put-fits (small-ranks H) rule-low room deep-enough (rule-gaps H r) (H .wide) x w this
+      word-fits = put-fits (small-ranks H) rule-low room deep-enough (rule-gaps H r) (H .longer) x w this
 
       pub gap-fits : (gap < 1280) × (isParameter w ≡ true → gap + 1 < length S)
       gap-fits = (
         omega (arith, x .gap-is, x .few, rule-low),
-        start-fits (small-ranks H) rule-low room deep-enough (rule-gaps H r) (H .wide) x w this,
+        start-fits (small-ranks H) rule-low room deep-enough (rule-gaps H r) (H .longer) x w this,
       )
 
       pub open-fits : depth < length O
-      open-fits = depth-fits (small-ranks H) rule-low room deep-enough (rule-gaps H r) (H .wide) x w this
+      open-fits = depth-fits (small-ranks H) rule-low room deep-enough (rule-gaps H r) (H .longer) x w this
 
       module _ (k : ℕ) (ke : k ≡ rankOf (ranksIn n table) w) where
         rank-is : k ≡ rankOf (ranksOf (rulesOf file)) w
@@ -88,7 +90,7 @@ module _ {file : List ℕ} {n r : ℕ} {table sizes P₀ S₀ : List ℕ} {top d
           entry-is = ap₂ (λ (a b : ℕ). 2048 * (a + 1) + b) rank-is ge
 
           pub entry-small : 2048 * (k + 1) + g < 65536
-          entry-small = omega (arith, entry-is, entry-fits (small-ranks H) rule-low room deep-enough (rule-gaps H r) (H .wide) x w this)
+          entry-small = omega (arith, entry-is, entry-fits (small-ranks H) rule-low room deep-enough (rule-gaps H r) (H .longer) x w this)
 
           module _ (P₁ S₁ : List ℕ) (t₁ gap₁ : ℕ) (te : t₁ ≡ ownTop w t) (gape : gap₁ ≡ ownGap w gap) (pe : P₁ ≡ ownPieces w P t) (se : S₁ ≡ ownStarts w S gap t) where
             pub close-asks : Closable sizes S₁ P₁ (set O depth (2048 * (k + 1) + g)) t₁ (depth + 1)
@@ -96,7 +98,7 @@ module _ {file : List ℕ} {n r : ℕ} {table sizes P₀ S₀ : List ℕ} {top d
                 subst (λ (l : List ℕ). Closable sizes l P₁ (set O depth (2048 * (k + 1) + g)) t₁ (depth + 1)) (sym se)
                 (subst (λ (l : List ℕ). Closable sizes (ownStarts w S gap t) l (set O depth (2048 * (k + 1) + g)) t₁ (depth + 1)) (sym pe)
                 (subst (λ (v : ℕ). Closable sizes (ownStarts w S gap t) (ownPieces w P t) (set O depth (2048 * (k + 1) + g)) v (depth + 1)) (sym te)
-                (closable (small-ranks H) rule-low room deep-enough (rule-gaps H r) (H .wide) x w this (2048 * (k + 1) + g) entry-is)))
+                (closable (small-ranks H) rule-low room deep-enough (rule-gaps H r) (H .longer) x w this (2048 * (k + 1) + g) entry-is)))
 
             pub next-turn : (P₂ O₂ : List ℕ) (t₂ d₂ : ℕ) → Closes after S₁ sizes P₁ (set O depth (2048 * (k + 1) + g)) t₁ (depth + 1) P₂ O₂ t₂ d₂
                 → RuleTurn file r top deepest sizes P₂ S₁ O₂ t₂ gap₁ d₂ (i + 1)
@@ -109,18 +111,18 @@ module _ {file : List ℕ} {n r : ℕ} {table sizes P₀ S₀ : List ℕ} {top d
                 subst (λ (v : ℕ). Closes after (ownStarts w S gap t) sizes (ownPieces w P t) O₁ v (depth + 1) P₂ O₂ t₂ d₂) te c₂ in
                 subst (λ (v : ℕ). RuleTurn file r top deepest sizes P₂ S₁ O₂ t₂ v d₂ (i + 1)) (sym gape)
                 (subst (λ (l : List ℕ). RuleTurn file r top deepest sizes P₂ l O₂ t₂ (ownGap w gap) d₂ (i + 1)) (sym se)
-                (turned (small-ranks H) rule-low room deep-enough (rule-gaps H r) (H .wide) x w this (2048 * (k + 1) + g) entry-is c₃))
+                (turned (small-ranks H) rule-low room deep-enough (rule-gaps H r) (H .longer) x w this (2048 * (k + 1) + g) entry-is c₃))
 
     module _ (over : words ≤ i) where
       no-more : length (bodyAt (rulesOf file) r) ≤ i
       no-more = omega (arith, same-words)
 
       pub stop-fits : t < length P
-      stop-fits = end-fits (small-ranks H) rule-low room deep-enough (rule-gaps H r) (H .wide) x no-more
+      stop-fits = end-fits (small-ranks H) rule-low room deep-enough (rule-gaps H r) (H .longer) x no-more
 
       pub rule-over : Spelt file n (suc r) table sizes (set P t stop) S (t + 1)
       rule-over =
-          let d = rule-done (small-ranks H) rule-low room deep-enough (rule-gaps H r) (H .wide) x no-more (λ c h. gap-measured H r c below h) in
+          let d = rule-done (small-ranks H) rule-low room deep-enough (rule-gaps H r) (H .longer) x no-more (λ c h. gap-measured H r c below h) in
           record {
             held = H;
             spells = d .0;

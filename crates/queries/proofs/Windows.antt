@@ -1,7 +1,7 @@
 -- The window of a file that was read, and the model's answer case by case.
-use Prim.Native.Nat.{ℕ, _+_, _*_, _-_, _≤_, _<_}
+use Prim.Native.Nat.{ℕ, _+_, _*_, _-_, _≤_, _<_, zero, suc}
 use native.Mathlib.Omega.{arith}
-use mathlib.Core.Path.{_≡_, refl, sym, ap, ap₂, subst, _∙_}
+use mathlib.Core.Path.{_≡_, refl, sym, ap, ap₂, _∙_}
 use mathlib.Core.Bool.{Bool, true, false}
 use mathlib.Core.List.{List, [], _∷_, map}
 use lib.Dec.{T, leb}
@@ -15,35 +15,21 @@ use Rattle.model.specs.Trees.{Rule, all, treeOf, nodes, expansions}
 use Rattle.model.specs.Refusals.{Refusal, Result, taken, refused, POSITION}
 use Rattle.model.specs.File.{read}
 use Rattle.model.specs.Answers.{Answer, LabelAnswer, WindowAnswer, accepted, refusal, labelAs, labelAt, windowAs, windowAt}
-use Rattle.laws.specs.Formed.{formed, Tree}
+use Rattle.laws.specs.Formed.{Tree}
 use Rattle.laws.proofs.Grammar.{tree-plain}
 use Rattle.laws.proofs.Lists.{all-cons}
-use Rattle.grammar.specs.Meaning.{readingOf, queryAnswer, entries, Bodies, placeAfter, padded}
-use Rattle.grammar.specs.Measures.{gapRows}
-use Rattle.grammar.proofs.Promise.{Denotes}
+use Rattle.grammar.specs.Meaning.{readingOf, queryAnswer}
+use Rattle.grammar.specs.Measures.{Denotes}
 use Rattle.queries.specs.Pieces.{stop, stopped, unstopped, upTo, Walkable, Walked}
-use Rattle.queries.specs.Building.{rulesTaken, rulesOf, gapsOf, Held, Spelt}
+use Rattle.queries.specs.Building.{rulesTaken, rulesOf, gapsOf, Spelt}
 use Rattle.queries.proofs.Stops.{tree-word, small-unstopped, upTo-all, gap-at}
-use Rattle.queries.proofs.HeldRules.{zeros-at, few, some, first-place, none-over, plain, gap-measured}
+use Rattle.queries.proofs.HeldRules.{named, first-place, none-over, plain, gap-measured}
 
--- a file that was read
-module _ {file : List ℕ} {n : ℕ} {table sizes : List ℕ} (d : Denotes file n table sizes) where
-  pub rules-are : d .rules ≡ rulesOf file
-  rules-are = sym (ap rulesTaken (d .is))
-
-  pub held : 768 ≤ length table → 1280 ≤ length sizes → Held file n table sizes
-  held long wide =
-      record {
-        is-formed = subst (λ (rs : List Rule). T (formed rs)) rules-are (d .is-formed);
-        count = ap length (sym rules-are) ∙ d .count;
-        entered = d .entered ∙ ap (λ (rs : List Rule). padded (length table) (entries 18 rs)) rules-are;
-        long = long;
-        gaps = d .gaps ∙ ap (λ (rs : List Rule). padded (length sizes) (gapRows (expansions rs))) rules-are;
-        wide = wide;
-        bodies = subst (Bodies file 18) rules-are (d .bodies);
-        within = subst (λ (rs : List Rule). placeAfter 18 rs ≤ length file + 8) rules-are (d .within);
-        short = d .short;
-      }
+-- nothing but 0
+pub zeros-at : (m c : ℕ) → getD (replicate {A = ℕ} m 0) c 0 ≡ 0
+zeros-at zero c = refl
+zeros-at (suc m) zero = refl
+zeros-at (suc m) (suc c) = zeros-at m c
 
 -- a tree's words have no stops
 tree-stopped : (ws : List ℕ) → T (all isTreeWord ws) → map stopped ws ≡ ws
@@ -62,7 +48,7 @@ tree-some : (ws : List ℕ) → Tree [] ws → 1 ≤ length ws
 tree-some [] t = absurd (omega (arith, t .1))
 tree-some (w ∷ ws) t = omega arith
 
-module _ {file : List ℕ} {n : ℕ} {table sizes : List ℕ} (H : Held file n table sizes) where
+module _ {file : List ℕ} {n : ℕ} {table sizes : List ℕ} (H : Denotes file n table sizes) where
   pub nothing-spelt : (P S : List ℕ) → length P ≡ 16384 → S ≡ replicate 1280 0 → Spelt file n 0 table sizes P S 0
   nothing-spelt P S lp e =
       record {
@@ -79,8 +65,8 @@ module _ {file : List ℕ} {n : ℕ} {table sizes : List ℕ} (H : Held file n t
   start-gap =
       let R = rulesOf file in
       let z : 5 * (n - 1) ≡ 5 * (n - 1) + 0 = omega arith in
-      let p = tree-plain R (H .is-formed) in
-      let m : n - 1 ≡ length R - 1 = omega (arith, H .count) in
+      let p = tree-plain R (named H .is-formed) in
+      let m : n - 1 ≡ length R - 1 = omega (arith, named H .count) in
       ap (gapsOf file) z ∙ gap-at (expansions R) (n - 1) 0 (omega arith)
       ∙ ap (λ (k : ℕ). upTo (map stopped (getD (expansions R) k []))) m
       ∙ ap upTo (tree-stopped (treeOf R) (p .words)) ∙ upTo-all (treeOf R) (tree-unstopped (treeOf R) (p .words))
@@ -89,11 +75,11 @@ module _ {file : List ℕ} {n : ℕ} {table sizes : List ℕ} (H : Held file n t
   pub start-size : getD sizes (5 * (n - 1)) 0 ≡ nodes (rulesOf file)
   start-size =
       let z : 5 * (n - 1) ≡ 5 * (n - 1) + 0 = omega arith in
-      ap (λ (k : ℕ). getD sizes k 0) z ∙ gap-measured H (n - 1) 0 (omega (arith, some H)) (omega arith)
+      ap (λ (k : ℕ). getD sizes k 0) z ∙ gap-measured H (n - 1) 0 (omega (arith, H .some)) (omega arith)
       ∙ ap (λ (k : ℕ). length (gapsOf file k)) (sym z) ∙ ap length start-gap
 
   pub start-some : 1 ≤ nodes (rulesOf file)
-  start-some = tree-some (treeOf (rulesOf file)) (tree-plain (rulesOf file) (H .is-formed) .tree)
+  start-some = tree-some (treeOf (rulesOf file)) (tree-plain (rulesOf file) (named H .is-formed) .tree)
 
   module _ {P S : List ℕ} {t : ℕ} (s : Spelt file n n table sizes P S t) where
     pub walkable : (p many : ℕ) → p + many ≤ getD sizes (5 * (n - 1)) 0 → Walkable P S sizes n p many
@@ -104,9 +90,9 @@ module _ {file : List ℕ} {n : ℕ} {table sizes : List ℕ} (H : Held file n t
           spells = s .spells;
           within = omega (arith, s .fits, s .pieces-long);
           short = omega (arith, s .pieces-long);
-          some-rules = some H;
-          few-rules = few H;
-          wide = H .wide;
+          some-rules = H .some;
+          few-rules = H .few;
+          wide = H .longer;
           long = omega (arith, s .long);
           some-words = omega (arith, start-size, start-some);
           fits = h;
@@ -162,9 +148,12 @@ answer-refused file p many m x k e f a q out o =
     let w = window-refused file p many x k (reading-refused (read file) x k (sym e ∙ f)) in
     (q ∙ ap queryAnswer e ∙ ap (λ (v : WindowAnswer). v .answer) (sym w), o ∙ ap (λ (v : WindowAnswer). v .window) (sym w))
 
-module _ {file : List ℕ} {n : ℕ} {table sizes : List ℕ} (d : Denotes file n table sizes) (long : 768 ≤ length table) (wide : 1280 ≤ length sizes) (p many : ℕ) where
+module _ {file : List ℕ} {n : ℕ} {table sizes : List ℕ} (d : Denotes file n table sizes) (p many : ℕ) where
+  rules-are : rulesOf file ≡ d .rules
+  rules-are = ap rulesTaken (d .is)
+
   size-is : getD sizes (5 * (n - 1)) 0 ≡ nodes (d .rules)
-  size-is = start-size (held d long wide) ∙ ap nodes (sym (rules-are d))
+  size-is = start-size d ∙ ap nodes rules-are
 
   -- a place outside the tree
   pub answer-outside : getD sizes (5 * (n - 1)) 0 < p + many → (a : Answer) → a ≡ refusal POSITION 0 → (out : List ℕ) → out ≡ replicate many 65535
@@ -179,5 +168,5 @@ module _ {file : List ℕ} {n : ℕ} {table sizes : List ℕ} (d : Denotes file 
   answer-inside h m f a q out o =
       let w = window-inside file p many (d .rules) (d .is) (omega (arith, size-is)) in (
         q ∙ ap queryAnswer (f ∙ ap readingOf (d .is)) ∙ ap (λ (v : WindowAnswer). v .answer) (sym w),
-        o ∙ ap (λ (rs : List Rule). take many (drop p (treeOf rs))) (sym (rules-are d)) ∙ ap (λ (v : WindowAnswer). v .window) (sym w),
+        o ∙ ap (λ (rs : List Rule). take many (drop p (treeOf rs))) rules-are ∙ ap (λ (v : WindowAnswer). v .window) (sym w),
       )

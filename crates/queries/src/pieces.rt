@@ -9,7 +9,7 @@ ghost use Prim.Native.Nat.{ℕ, suc, _+_, _≤_, _<_};
 ghost use lib.ListN.{length, getD, replicate};
 ghost use Rattle.model.specs.Words.{isParameter};
 ghost use Rattle.queries.specs.Pieces.{stop, codeFor, putIn, putTop, after, Closes, Closable, firstGap, ownPieces, ownTop, ownGap, ownStarts};
-ghost use Rattle.queries.specs.Building.{Held, Spelt};
+ghost use Rattle.queries.specs.Building.{Spelt};
 
 // The piece that ends a gap.
 pub const STOP: u16 = 65535;

@@ -14,7 +14,8 @@ ghost use Rattle.model.specs.Trees.{treeOf};
 ghost use Rattle.model.specs.Answers.{windowAt, refusal};
 ghost use Rattle.model.specs.Refusals.{POSITION};
 ghost use Rattle.grammar.specs.Meaning.{answerIs};
-ghost use Rattle.queries.specs.Building.{Held, rulesOf};
+ghost use Rattle.grammar.specs.Measures.{Denotes};
+ghost use Rattle.queries.specs.Building.{rulesOf};
 
 // The window expander: the tree's words from p on, as many as `out` has. Refused (12 where p plus the length is over N, and the file's refusals), it is all FFFF.
 pub fn window(file: &[u8], p: u64, out: &mut [u16]) -> Answer
@@ -71,7 +72,7 @@ fn refuse(out: &mut [u16])
 
 // The tree's words from p on, of a file that was read.
 fn expand(file: &[u8], n: usize, table: &[u16], sizes: &[u64], p: u64, out: &mut [u16])
-    requires { ⌜ Held (now file) n (now table) (now sizes) × (p + length (now out) ≤ getD (now sizes) (5 * (n - 1)) 0) ⌝ }
+    requires { ⌜ Denotes (now file) n (now table) (now sizes) × (p + length (now out) ≤ getD (now sizes) (5 * (n - 1)) 0) ⌝ }
     ensures { λ _. ⌜ now (out .exit) ≡ take (length (now (out .entry))) (drop p (treeOf (rulesOf (now (file .entry))))) ⌝ }
 {
     let mut pieces = [0u16; 16384];

@@ -5,7 +5,6 @@ use mathlib.Core.Path.{_≡_, refl, sym, subst, _∙_}
 use lib.ListN.{length}
 use denote.Ref.{now}
 use Rattle.queries.specs.Building.{Spelt}
-use Rattle.queries.proofs.HeldRules.{few}
 use Rattle.queries.proofs.SpellFile.{one-more}
 use Rattle.queries.proofs.pieces.build.Statement.{statement}
 use Rattle.queries.proofs.pieces.build.Tie as tie
@@ -30,7 +29,7 @@ spell-requires c κs = (c .before .before .before .before .loop .inv .0, omega a
 
 -- src/pieces.rt:162:9
 add-r : tie.Need-add-r Inv-loop μ-loop
-add-r c = omega (arith, few (c .before .before .before .before .before .before .before .before .before .before .before .loop .inv .0 .held))
+add-r c = omega (arith, c .before .before .before .before .before .before .before .before .before .before .before .loop .inv .0 .held .few)
 
 -- src/pieces.rt:160:5
 loop-less : tie.Need-loop-less Inv-loop μ-loop

@@ -5,7 +5,6 @@ use native.Mathlib.Omega.{arith}
 use mathlib.Core.Path.{refl, sym, _∙_}
 use lib.ListN.{length, getD, length-set}
 use denote.Ref.{now}
-use Rattle.queries.proofs.HeldRules.{few}
 use Rattle.queries.proofs.SpellFile.{RuleTurn, rule-low, in-table, place-fits, first-turn, word-fits, gap-fits, open-fits, rank-small, entry-small, close-asks, next-turn, stop-fits, rule-over}
 use Rattle.queries.proofs.pieces.spell.Statement.{statement}
 use Rattle.queries.proofs.pieces.spell.Tie as tie
@@ -99,7 +98,7 @@ word-at-requires c κs = let s = c .before .before .before .before .before .befo
 
 -- src/pieces.rt:139:13
 rank-of-requires : tie.Need-rank-of-requires Inv-loop μ-loop
-rank-of-requires c κs = let s = c .before .before .before .before .before .before .before .before .before .before .before .pre .0 in let below = c .before .before .before .before .before .before .before .before .before .before .before .pre .1 in let deep = c .before .before .before .before .before .before .before .before .before .before .before .pre .2 in let x = c .before .before .loop .inv in omega (arith, s .held .long, few (s .held))
+rank-of-requires c κs = let s = c .before .before .before .before .before .before .before .before .before .before .before .pre .0 in let below = c .before .before .before .before .before .before .before .before .before .before .before .pre .1 in let deep = c .before .before .before .before .before .before .before .before .before .before .before .pre .2 in let x = c .before .before .loop .inv in omega (arith, s .held .long, s .held .few)
 
 -- src/pieces.rt:140:13
 put-own-requires : tie.Need-put-own-requires Inv-loop μ-loop

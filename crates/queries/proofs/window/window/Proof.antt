@@ -7,7 +7,7 @@ use lib.ListN.{length}
 use denote.Ref.{now}
 use Rattle.grammar.specs.Meaning.{readingIs, answerIs}
 use Rattle.grammar.proofs.Promise.{denotes}
-use Rattle.queries.proofs.Windows.{held, answer-refused, answer-outside, answer-inside}
+use Rattle.queries.proofs.Windows.{answer-refused, answer-outside, answer-inside}
 use Rattle.queries.proofs.window.window.Statement.{statement}
 use Rattle.queries.proofs.window.window.Tie as tie
 use Rattle.queries.proofs.window.window.Reads as reads
@@ -76,7 +76,7 @@ same-length c = search needs
 
 -- src/window.rt:37:17
 returns : tie.Need-returns
-returns c = let file = now (c .before .before .before .before .before .before .before .before .before .before .before .before .before .before .before .before .args .file) in let r = c .before .before .before .before .before .before .before .before .before .before .before .read in let d = denotes file (c .before .before .before .before .before .before .before .r .given .0 .0) (r .result) _ (r .last .1 .0) _ (r .last .1 .1 .0) (c .before .before .before .before .before .before .before .r .given .1) (r .ensures) (omega arith) (omega arith) in answer-outside d (omega arith) (omega arith) (c .before .before .before .before .before .before .before .before .before .before .before .before .before .before .before .before .args .p) _ (omega arith) (answerIs (c .outside .result)) (c .outside .ensures) _ (c .before .before .before .refuse2 .ensures)
+returns c = let file = now (c .before .before .before .before .before .before .before .before .before .before .before .before .before .before .before .before .args .file) in let r = c .before .before .before .before .before .before .before .before .before .before .before .read in let d = denotes file (c .before .before .before .before .before .before .before .r .given .0 .0) (r .result) _ (r .last .1 .0) _ (r .last .1 .1 .0) (c .before .before .before .before .before .before .before .r .given .1) (r .ensures) (omega arith) (omega arith) in answer-outside d (c .before .before .before .before .before .before .before .before .before .before .before .before .before .before .before .before .args .p) _ (omega arith) (answerIs (c .outside .result)) (c .outside .ensures) _ (c .before .before .before .refuse2 .ensures)
 
 -- src/window.rt:40:17
 refuse-requires-3 : tie.Need-refuse-requires-3
@@ -92,7 +92,7 @@ same-length-2 c = search needs
 
 -- src/window.rt:41:17
 returns-2 : tie.Need-returns-2
-returns-2 c = let file = now (c .before .before .before .before .before .before .before .before .before .before .before .before .before .before .before .before .before .args .file) in let r = c .before .before .before .before .before .before .before .before .before .before .before .before .read in let d = denotes file (c .before .before .before .before .before .before .before .before .r .given .0 .0) (r .result) _ (r .last .1 .0) _ (r .last .1 .1 .0) (c .before .before .before .before .before .before .before .before .r .given .1) (r .ensures) (omega arith) (omega arith) in answer-outside d (omega arith) (omega arith) (c .before .before .before .before .before .before .before .before .before .before .before .before .before .before .before .before .before .args .p) _ (omega arith) (answerIs (c .outside2 .result)) (c .outside2 .ensures) _ (c .before .before .before .refuse3 .ensures)
+returns-2 c = let file = now (c .before .before .before .before .before .before .before .before .before .before .before .before .before .before .before .before .before .args .file) in let r = c .before .before .before .before .before .before .before .before .before .before .before .before .read in let d = denotes file (c .before .before .before .before .before .before .before .before .r .given .0 .0) (r .result) _ (r .last .1 .0) _ (r .last .1 .1 .0) (c .before .before .before .before .before .before .before .before .r .given .1) (r .ensures) (omega arith) (omega arith) in answer-outside d (c .before .before .before .before .before .before .before .before .before .before .before .before .before .before .before .before .before .args .p) _ (omega arith) (answerIs (c .outside2 .result)) (c .outside2 .ensures) _ (c .before .before .before .refuse3 .ensures)
 
 -- src/window.rt:43:29
 slice-aggregate-expand : tie.Need-slice-aggregate-expand
@@ -104,7 +104,7 @@ slice-aggregate-expand-2 c = search needs
 
 -- src/window.rt:43:13
 expand-requires : tie.Need-expand-requires
-expand-requires c κs = let file = now (c .before .before .before .before .before .before .before .before .before .before .before .before .before .before .before .args .file) in let r = c .before .before .before .before .before .before .before .before .before .before .read in let d = denotes file (c .before .before .before .before .before .before .r .given .0 .0) (r .result) _ (r .last .1 .0) _ (r .last .1 .1 .0) (c .before .before .before .before .before .before .r .given .1) (r .ensures) (omega arith) (omega arith) in (held d (omega arith) (omega arith), omega arith)
+expand-requires c κs = let file = now (c .before .before .before .before .before .before .before .before .before .before .before .before .before .before .before .args .file) in let r = c .before .before .before .before .before .before .before .before .before .before .read in let d = denotes file (c .before .before .before .before .before .before .r .given .0 .0) (r .result) _ (r .last .1 .0) _ (r .last .1 .1 .0) (c .before .before .before .before .before .before .r .given .1) (r .ensures) (omega arith) (omega arith) in (d, omega arith)
 
 -- src/window.rt:44:13
 answer-of-requires-2 : tie.Need-answer-of-requires-2
@@ -124,7 +124,7 @@ same-length-4 c = search needs
 
 -- src/window.rt:20:1
 returns-4 : tie.Need-returns-4
-returns-4 c = let file = now (c .before .before .before .before .before .before .before .before .before .before .before .before .before .before .before .before .before .before .before .args .file) in let r = c .before .before .before .before .before .before .before .before .before .before .before .before .before .before .read in let d = denotes file (c .before .before .before .before .before .before .before .before .before .before .r .given .0 .0) (r .result) _ (r .last .1 .0) _ (r .last .1 .1 .0) (c .before .before .before .before .before .before .before .before .before .before .r .given .1) (r .ensures) (omega arith) (omega arith) in answer-inside d (omega arith) (omega arith) (c .before .before .before .before .before .before .before .before .before .before .before .before .before .before .before .before .before .before .before .args .p) (length (now (c .before .before .before .before .before .before .before .before .before .before .before .before .before .before .before .before .before .before .before .args .out))) (omega arith) _ (sym (ap readingIs (c .before .before .before .before .before .before .before .before .before .before .r .given .1)) ∙ r .ensures .reading) (answerIs (c .answer-of2 .result)) (c .answer-of2 .ensures) _ (c .before .before .before .expand .ensures)
+returns-4 c = let file = now (c .before .before .before .before .before .before .before .before .before .before .before .before .before .before .before .before .before .before .before .args .file) in let r = c .before .before .before .before .before .before .before .before .before .before .before .before .before .before .read in let d = denotes file (c .before .before .before .before .before .before .before .before .before .before .r .given .0 .0) (r .result) _ (r .last .1 .0) _ (r .last .1 .1 .0) (c .before .before .before .before .before .before .before .before .before .before .r .given .1) (r .ensures) (omega arith) (omega arith) in answer-inside d (c .before .before .before .before .before .before .before .before .before .before .before .before .before .before .before .before .before .before .before .args .p) (length (now (c .before .before .before .before .before .before .before .before .before .before .before .before .before .before .before .before .before .before .before .args .out))) (omega arith) _ (sym (ap readingIs (c .before .before .before .before .before .before .before .before .before .before .r .given .1)) ∙ r .ensures .reading) (answerIs (c .answer-of2 .result)) (c .answer-of2 .ensures) _ (c .before .before .before .expand .ensures)
 
 pub window-spec : {M : Type 1} → statement M
 window-spec =
