@@ -1,5 +1,5 @@
 -- Names compared, and the questions that are allowed.
-use Prim.Native.Nat.{ℕ, _≤_, _<_}
+use Prim.Native.Nat.{ℕ}
 use mathlib.Core.Path.{_≡_, refl, sym, ap, _∙_, subst}
 use mathlib.Core.Bool.{Bool, true, false, cond, _&&_}
 use mathlib.Core.List.{List, [], _∷_}
@@ -10,7 +10,7 @@ use lib.Dec.{eqb, leb}
 use Rattle.model.specs.Trees.{same}
 use Rattle.text.specs.Numbers.{numberIn}
 use Rattle.ask.specs.declared.question.Question.{Question}
-use Rattle.ask.specs.declared.question.Question.the-variants.{Check, Count, Label, Window, Wrong}
+use Rattle.ask.specs.declared.question.Question.the-variants.{Check, Count, Window, Wrong}
 use Rattle.ask.specs.Question.{checkName, countName, labelName, windowName, labelAt, labelQuestion, bareQuestion, windowAt, windowQuestion, windowAllowed, questionOf, Allowed}
 
 same-refl : (xs : List ℕ) → same xs xs ≡ true

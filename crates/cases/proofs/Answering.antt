@@ -1,7 +1,7 @@
 -- An answer's number and place are its verdict's.
 use Prim.Native.Nat.{ℕ}
 use mathlib.Core.Path.{_≡_, refl}
-use mathlib.Core.Bool.{Bool, _&&_}
+use mathlib.Core.Bool.{_&&_}
 use lib.Dec.{eqb}
 use Rattle.grammar.specs.Meaning.{verdictIs}
 use Rattle.grammar.specs.declared.refusals.Verdict.{Verdict}

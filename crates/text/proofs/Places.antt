@@ -1,7 +1,7 @@
 -- "The place in a refusal is the record number for 1 to 8 and 10, and otherwise 0", by the refusal's number n.
 use Prim.Native.Nat.{ℕ, _≤_, _<_}
-use mathlib.Core.Path.{_≡_, sym, _∙_}
-use borrow.Author.Tests.{le-leb, lt-leb, eq-eqb, ne-eqb}
+use mathlib.Core.Path.{_≡_}
+use borrow.Author.Tests.{le-leb, lt-leb, ne-eqb}
 use Rattle.model.specs.Refusals.{Refusal, numberOf, placeOf}
 
 module _ (x : Refusal) (k n : ℕ) (is : n ≡ numberOf x) where

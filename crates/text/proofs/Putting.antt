@@ -1,12 +1,11 @@
 -- Text put into a slice piece by piece is the pieces joined and put at once.
-use Prim.Native.Nat.{ℕ, zero, suc, _+_, _≤_, _<_}
+use Prim.Native.Nat.{ℕ, suc, _+_, _<_}
 use mathlib.Core.Path.{_≡_, refl, sym, ap, subst, _∙_}
-use mathlib.Core.List.{List, [], _∷_, _++_, append-assoc, append-nil}
+use mathlib.Core.List.{List, [], _∷_, _++_}
 use native.Mathlib.Numerals.{add-one}
-use native.Mathlib.Nat.{suc-add}
 use native.Mathlib.Omega.{arith}
 use lib.ListN.{length, take, getD, set, length-append}
-use lib.Seq.{sets, take-suc, length-take-le, length-sets, take-length}
+use lib.Seq.{sets, take-suc, length-take-le}
 use Rattle.text.specs.Lines.{Put}
 use Rattle.text.specs.Numbers.{hexWord, separatorAfter, wordsTo}
 

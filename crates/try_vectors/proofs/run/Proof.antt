@@ -1,7 +1,6 @@
 -- `run` is safe and ends: the file and the case stay within their buffers, and no turn counts more than one case.
 use Prim.Native.Nat.{_-_, _≤_}
-use mathlib.Core.Path.{_≡_, refl}
-use native.Mathlib.Omega.{arith}
+use mathlib.Core.Path.{_≡_}
 use borrow.Author.Needs.{needs}
 use lib.ListN.{length}
 use Rattle.cases.specs.Progress.{Ready}

@@ -1,9 +1,8 @@
 -- `ask::replies::put_reply` meets its contract, question by question.
 use Prim.Native.Nat.{ℕ, _≤_}
-use mathlib.Core.Path.{_≡_, sym, ap, subst, _∙_}
+use mathlib.Core.Path.{sym, ap, subst, _∙_}
 use native.Mathlib.Omega.{arith}
 use denote.Ref.{now}
-use lib.ListN.{length}
 use lib.Seq.{length-take-le}
 use Rattle.io.proofs.Counting.{counts}
 use Rattle.text.proofs.Putting.{put-as}

@@ -1,9 +1,7 @@
 -- `ask::replies::put_window` meets its contract: by whether the answer is accepted.
-use mathlib.Core.Path.{_≡_, sym, ap, _∙_}
+use mathlib.Core.Path.{sym, ap, _∙_}
 use native.Mathlib.Omega.{arith}
 use borrow.Author.Tests.{not-true, not-false}
-use denote.Ref.{now}
-use lib.ListN.{length}
 use Rattle.grammar.specs.Meaning.{answerIs}
 use Rattle.io.proofs.Counting.{counts}
 use Rattle.ask.specs.Replies.{windowText}

@@ -1,6 +1,6 @@
 -- `cases::progress::advance` meets its contract: what `next` found fits, and the buffers keep their lengths.
 use Prim.Native.Nat.{_≤_}
-use mathlib.Core.Path.{_≡_, sym, subst}
+use mathlib.Core.Path.{_≡_, subst}
 use native.Mathlib.Omega.{arith}
 use denote.Ref.{now}
 use lib.ListN.{length}

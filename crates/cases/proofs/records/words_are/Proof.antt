@@ -3,7 +3,6 @@ use Prim.Native.Nat.{ℕ, _+_, _-_, _*_, _≤_, _<_}
 use mathlib.Core.Path.{_≡_, refl, sym, _∙_}
 use native.Mathlib.Omega.{arith}
 use borrow.Author.Count.{below-none, below-more}
-use denote.Ref.{now}
 use lib.ListN.{length, getD}
 use Rattle.grammar.specs.Meaning.{wordIn}
 use Rattle.cases.proofs.records.words_are.Statement.{statement}

@@ -1,9 +1,8 @@
 -- `cases::reference::put_doublings` meets its contract: after j turns j rules are put, 14 bytes each.
-use Prim.Native.Nat.{ℕ, _+_, _-_, _*_, _≤_}
-use mathlib.Core.Path.{_≡_, refl, sym, ap, _∙_}
+use Prim.Native.Nat.{_+_, _-_, _*_, _≤_}
+use mathlib.Core.Path.{_≡_, refl, sym, ap}
 use native.Mathlib.Numerals.{add-one}
 use native.Mathlib.Omega.{arith}
-use denote.Ref.{now}
 use lib.ListN.{length}
 use Rattle.text.specs.Lines.{Put}
 use Rattle.text.proofs.Putting.{put-then, put-as}

@@ -1,11 +1,11 @@
 -- `text::lines::put` meets its contract: after i turns the first i bytes are put.
 use Prim.Native.Nat.{ℕ, _+_, _-_, _≤_}
 use mathlib.Core.List.{List}
-use mathlib.Core.Path.{_≡_, refl, sym, ap, _∙_}
+use mathlib.Core.Path.{_≡_, refl, ap, _∙_}
 use native.Mathlib.Omega.{arith}
 use denote.Ref.{now}
 use lib.ListN.{length, take, getD, set, length-set}
-use lib.Seq.{sets, length-sets, take-length}
+use lib.Seq.{sets, take-length}
 use Rattle.text.proofs.Putting.{put-more}
 use Rattle.text.proofs.lines.put.Statement.{statement}
 use Rattle.text.proofs.lines.put.Tie as tie

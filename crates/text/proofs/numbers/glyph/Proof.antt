@@ -1,5 +1,4 @@
 -- `text::numbers::glyph` meets its contract, by the two ranges of digits.
-use mathlib.Core.Path.{sym}
 use native.Mathlib.Omega.{arith}
 use borrow.Author.Tests.{lt-ltb, le-ltb}
 use borrow.Author.Needs.{needs}

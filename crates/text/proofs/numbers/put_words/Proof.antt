@@ -1,9 +1,9 @@
 -- `text::numbers::put_words` meets its contract: after i turns the first i words are put, five bytes each.
 use Prim.Native.Nat.{_+_, _-_, _*_, _≤_}
-use mathlib.Core.Path.{_≡_, refl, sym, ap, _∙_}
+use mathlib.Core.Path.{_≡_, refl, ap}
 use native.Mathlib.Omega.{arith}
 use denote.Ref.{now}
-use lib.ListN.{length, getD, length-set}
+use lib.ListN.{length, length-set}
 use Rattle.text.specs.Lines.{Put}
 use Rattle.text.specs.Numbers.{wordsTo}
 use Rattle.text.proofs.Putting.{put-as, put-one-word}

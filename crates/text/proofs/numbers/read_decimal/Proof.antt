@@ -1,9 +1,9 @@
 -- `text::numbers::read_decimal` meets its contract: after i turns the number of the first i digits is left with the other digits to come.
-use Prim.Native.Nat.{_+_, _-_, _≤_}
-use mathlib.Core.Path.{_≡_, refl, sym, ap, _∙_}
+use Prim.Native.Nat.{_-_, _≤_}
+use mathlib.Core.Path.{_≡_, sym, ap, _∙_}
 use native.Mathlib.Omega.{arith}
 use denote.Ref.{now}
-use lib.ListN.{length, drop, getD}
+use lib.ListN.{length, drop}
 use Rattle.text.specs.Numbers.{numberIn, numberIs, withDigits}
 use Rattle.text.proofs.ReadingDigits.{no-digits, some-digits, digit-taken, digit-refused, digits-ended}
 use borrow.Author.Needs.{needs}

@@ -1,5 +1,4 @@
 -- `text::numbers::separator` meets its contract: the two places of a line's end.
-use native.Mathlib.Omega.{arith}
 use borrow.Author.Tests.{eq-eqb, ne-eqb}
 use Prim.Native.Nat.{_+_, _%_}
 use borrow.Author.Needs.{needs}
