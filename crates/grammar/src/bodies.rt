@@ -30,7 +30,7 @@ pub fn rank_of(table: &[u16], w: u16, r: usize) -> usize
 }
 
 // "6 over the whole body": every word is legal in rule r.
-pub fn legal(file: &[u8], at: usize, words: usize, r: usize) -> bool
+pub(crate) fn legal(file: &[u8], at: usize, words: usize, r: usize) -> bool
     requires { ⌜ at + 2 * words ≤ length (now file) ⌝ }
     ensures { λ b. ⌜ b ≡ all (isLegal r) (bodyIn (now (file .entry)) at words) ⌝ }
 {
@@ -90,7 +90,7 @@ impl Cursor {
 }
 
 // The body is one complete tree.
-pub fn one_tree(file: &[u8], at: usize, words: usize, table: &[u16], r: usize) -> bool
+pub(crate) fn one_tree(file: &[u8], at: usize, words: usize, table: &[u16], r: usize) -> bool
     requires { ⌜ (at + 2 * words ≤ length (now file)) × (words ≤ 8192) × (3 * r ≤ length (now table)) × RanksSmall r (now table) ⌝ }
     ensures { λ b. ⌜ b ≡ isTree (ranksIn r (now (table .entry))) (bodyIn (now (file .entry)) at words) ⌝ }
 {
@@ -125,7 +125,7 @@ pub fn subtree_end(file: &[u8], at: usize, words: usize, i: usize, table: &[u16]
 }
 
 // The body holds y1 to yk once each, in that order, and no other parameter.
-pub fn in_order(file: &[u8], at: usize, words: usize, k: usize) -> bool
+pub(crate) fn in_order(file: &[u8], at: usize, words: usize, k: usize) -> bool
     requires { ⌜ (at + 2 * words ≤ length (now file)) × (words ≤ 8192) ⌝ }
     ensures { λ b. ⌜ b ≡ same (those isParameter (bodyIn (now (file .entry)) at words)) (parameters k) ⌝ }
 {
@@ -148,7 +148,7 @@ pub fn in_order(file: &[u8], at: usize, words: usize, k: usize) -> bool
 }
 
 // The number of a parameter; 0 for any other word.
-pub fn parameter(w: u16) -> usize
+pub(crate) fn parameter(w: u16) -> usize
     ensures { λ n. ⌜ n ≡ whenParameter 0 (λ i. i) w ⌝ }
 {
     match sort(w) {
@@ -161,7 +161,7 @@ pub fn parameter(w: u16) -> usize
 }
 
 // "7": the body obeys document 01 as the body of a rule of rank k above the rules of the table.
-pub fn shaped(file: &[u8], at: usize, words: usize, k: usize, table: &[u16], r: usize) -> bool
+pub(crate) fn shaped(file: &[u8], at: usize, words: usize, k: usize, table: &[u16], r: usize) -> bool
     requires { ⌜ (at + 2 * words ≤ length (now file)) × (words ≤ 8192) × (3 * r ≤ length (now table)) × RanksSmall r (now table) ⌝ }
     ensures { λ b. ⌜ b ≡ obeys (ranksIn r (now (table .entry))) k (bodyIn (now (file .entry)) at words) ⌝ }
 {

@@ -44,12 +44,12 @@ fn allowed(kind: u16, len: usize) -> bool
 }
 
 // A record at a place: its payload's length, or the first refusal of "six header bytes 1, kind 2, length 3, payload bytes 1".
-pub enum Record {
+pub(crate) enum Record {
     Payload(usize),
     Refused(Refusal),
 }
 
-pub fn record_at(file: &[u8], at: usize, kind: u16) -> Record
+pub(crate) fn record_at(file: &[u8], at: usize, kind: u16) -> Record
     requires { ⌜ at ≤ length (now file) ⌝ }
     ensures { λ r. ⌜ recordIs r ≡ recordResult kind (drop at (now (file .entry))) ⌝ }
 {
@@ -71,7 +71,7 @@ pub fn record_at(file: &[u8], at: usize, kind: u16) -> Record
 }
 
 // The head: the number of rules, or the first refusal.
-pub fn head(file: &[u8]) -> Record
+pub(crate) fn head(file: &[u8]) -> Record
     ensures { λ r. ⌜ recordIs r ≡ headResult (now (file .entry)) ⌝ }
 {
     match record_at(file, 0, 1) {

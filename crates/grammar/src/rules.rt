@@ -14,13 +14,13 @@ ghost use Rattle.model.specs.Refusals.{taken};
 ghost use Rattle.grammar.specs.Meaning.{ranksIn, RanksSmall, recordResult, foundIs, ruleResult, RulesRead};
 
 // What stands at a rule's place: its rank and the number of its body's words, or the first refusal.
-pub enum Found {
+pub(crate) enum Found {
     Rule(usize, usize),
     Refused(Refusal),
 }
 
 // A rule's record at a place, on the table of the r rules below it; last where it is the start rule.
-pub fn rule_at(file: &[u8], at: usize, table: &[u16], r: usize, last: bool) -> Found
+pub(crate) fn rule_at(file: &[u8], at: usize, table: &[u16], r: usize, last: bool) -> Found
     requires { ⌜ (at ≤ length (now file)) × (length (now file) ≤ 16384) × (3 * r ≤ length (now table)) × RanksSmall r (now table) ⌝ }
     ensures { λ x. ⌜ foundIs x ≡ ruleResult (ranksIn r (now (table .entry))) last (drop at (now (file .entry))) ⌝ }
 {

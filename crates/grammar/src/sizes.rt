@@ -54,7 +54,7 @@ pub fn own(sizes: &[u64], k: usize, w: u16) -> u64
 }
 
 // All nodes that the words of a body produce.
-pub fn total(file: &[u8], at: usize, words: usize, sizes: &[u64]) -> u64
+pub(crate) fn total(file: &[u8], at: usize, words: usize, sizes: &[u64]) -> u64
     requires { ⌜ (at + 2 * words ≤ length (now file)) × (words ≤ 8192) × (1280 ≤ length (now sizes)) × SizesSmall (now sizes) ⌝ }
     ensures { λ n. ⌜ (n ≡ sumOf (ownBy (now (sizes .entry)) 5) (bodyIn (now (file .entry)) at words)) × (n ≤ 8192 * (5 * 2 ^ 40)) ⌝ }
 {
@@ -69,7 +69,7 @@ pub fn total(file: &[u8], at: usize, words: usize, sizes: &[u64]) -> u64
 
 // The nodes before the word at a place of a body, read from the place to the left: the trees between a word and the place are counted, so that a word
 // with more children than those is known to stand over the place.
-pub fn before(file: &[u8], at: usize, place: usize, table: &[u16], r: usize, sizes: &[u64]) -> u64
+pub(crate) fn before(file: &[u8], at: usize, place: usize, table: &[u16], r: usize, sizes: &[u64]) -> u64
     requires { ⌜ (at + 2 * place ≤ length (now file)) × (place ≤ 8192) × (1280 ≤ length (now sizes)) × SizesSmall (now sizes)
         × (3 * r ≤ length (now table)) × RanksSmall r (now table) ⌝ }
     ensures { λ n.
@@ -94,7 +94,7 @@ pub fn before(file: &[u8], at: usize, place: usize, table: &[u16], r: usize, siz
 }
 
 // What measuring finds: every rule within the largest size, or the lowest rule that is over it.
-pub enum Measured {
+pub(crate) enum Measured {
     Fits,
     Huge(usize),
 }
