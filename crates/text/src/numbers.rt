@@ -18,7 +18,7 @@ pub fn put_decimal(n: u64, out: &mut [u8], at: usize) -> usize
 }
 
 // A word in four hexadecimal digits.
-pub fn put_word(w: u16, out: &mut [u8], at: usize) -> usize
+fn put_word(w: u16, out: &mut [u8], at: usize) -> usize
     requires { ⌜ at + 4 ≤ length (now out) ⌝ }
     ensures { λ r. ⌜ Put (hexWord w) (now (out .entry)) at (now (out .exit)) r × (r ≡ at + 4) ⌝ }
 {

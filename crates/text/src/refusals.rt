@@ -8,7 +8,7 @@ ghost use Rattle.model.specs.Refusals.{numberOf, nameOf, placeOf};
 ghost use Rattle.grammar.specs.Meaning.{refusalIs, verdictIs};
 
 // The number of the table's first column.
-pub fn number(x: Refusal) -> usize
+pub(crate) fn number(x: Refusal) -> usize
     ensures { λ r. ⌜ r ≡ numberOf (refusalIs x) ⌝ }
 {
     match x {
@@ -37,13 +37,13 @@ pub fn number(x: Refusal) -> usize
 }
 
 // A name: the first bytes of `text`.
-pub struct Spelled {
+pub(crate) struct Spelled {
     pub text: [u8; 12],
     pub length: usize,
 }
 
 // The name of the table's second column.
-pub fn name(x: Refusal) -> Spelled
+pub(crate) fn name(x: Refusal) -> Spelled
     ensures { λ r. ⌜ (take (r .length) (r .text) ≡ nameOf (refusalIs x)) × (r .length ≤ 12) × (length (r .text) ≡ 12) ⌝ }
 {
     match x {
@@ -135,7 +135,7 @@ pub fn name(x: Refusal) -> Spelled
 }
 
 // "The place is the record number for 1 to 8 and 10, and otherwise 0."
-pub fn place(x: Refusal, record: usize) -> usize
+pub(crate) fn place(x: Refusal, record: usize) -> usize
     ensures { λ r. ⌜ r ≡ placeOf (refusalIs x) «record» ⌝ }
 {
     let n = number(x);
