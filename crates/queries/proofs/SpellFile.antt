@@ -1,5 +1,5 @@
 -- The turns over the body of a rule of a file, in the numbers that the code has.
-use Prim.Native.Nat.{ℕ, suc, _+_, _*_, _-_, _≤_, _<_}
+use Prim.Native.Nat.{ℕ, suc, _+_, _*_, _≤_, _<_}
 use native.Mathlib.Omega.{arith}
 use native.Mathlib.Numerals.{add-one}
 use mathlib.Core.Path.{_≡_, sym, ap, ap₂, subst, _∙_}
@@ -9,7 +9,7 @@ use lib.ListN.{length, drop, getD, set, length-set}
 use Rattle.model.specs.Words.{rankOf, isParameter}
 use Rattle.model.specs.Trees.{expansions, ranksOf}
 use Rattle.laws.specs.Formed.{bodyAt}
-use Rattle.grammar.specs.Meaning.{wordIn, ranksIn}
+use Rattle.grammar.specs.Meaning.{wordIn, bodyIn, ranksIn}
 use Rattle.grammar.specs.Measures.{Denotes}
 use Rattle.grammar.proofs.BodyWords.{body-rest}
 use Rattle.grammar.proofs.Denoted as denoted
@@ -18,53 +18,58 @@ use Rattle.queries.specs.Building.{rulesOf, gapsOf, Spelt}
 use Rattle.queries.proofs.HeldRules.{rule-words, rule-body, rule-next, ranks-are, small-ranks, gap-measured, rule-expansion, rule-gaps, body-legal, body-fits, body-room, body-parameters}
 use Rattle.queries.proofs.SpellRule.{Turn, put-fits, start-fits, depth-fits, entry-fits, closable, turned, turn-start, end-fits, rule-done, rank-four}
 
--- the turns over rule r
+-- rule r, next to be spelled: where its body stands, and that there is room for its pieces after `top` others
+pub record Body (file : List ℕ) (n r : ℕ) (table sizes : List ℕ) (top deepest at words : ℕ) : Type 0 where
+  pub held : Denotes file n table sizes
+  pub below : r < n
+  pub stands : at ≡ getD table (3 * r + 1) 0
+  pub counted : words ≡ getD table (3 * r + 2) 0
+  pub follows : top + 18 ≤ at
+  pub deep : 8192 ≤ deepest
+
+pub body-next : {file : List ℕ} {n r : ℕ} {table sizes P S : List ℕ} {top deepest at words : ℕ} → Spelt file n r table sizes P S top → r < n → 8192 ≤ deepest
+    → at ≡ getD table (3 * r + 1) 0 → words ≡ getD table (3 * r + 2) 0 → Body file n r table sizes top deepest at words
+body-next s below deep a w = record { held = s .held; below = below; stands = a; counted = w; follows = omega (arith, s .room below); deep = deep }
+
+-- the turns over its words
 abbrev pub RuleTurn : List ℕ → ℕ → ℕ → ℕ → List ℕ → List ℕ → List ℕ → List ℕ → ℕ → ℕ → ℕ → ℕ → Type 0
 RuleTurn file r top deepest sizes P S O t gap depth i =
     Turn (gapsOf file) (ranksOf (rulesOf file)) (map stopped (getD (expansions (rulesOf file)) r [])) (bodyAt (rulesOf file) r) r top deepest sizes P S O t gap depth i
 
-module _ {file : List ℕ} {n r : ℕ} {table sizes P₀ S₀ : List ℕ} {top deepest : ℕ} (s : Spelt file n r table sizes P₀ S₀ top) (below : r < n) (deep : 8192 ≤ deepest) where
+module _ {file : List ℕ} {n r : ℕ} {table sizes : List ℕ} {top deepest at words : ℕ} (b : Body file n r table sizes top deepest at words) where
   abbrev H : Denotes file n table sizes
-  H = s .held
-
-  abbrev at : ℕ
-  at = getD table (3 * r + 1) 0
-
-  abbrev words : ℕ
-  words = getD table (3 * r + 2) 0
+  H = b .held
 
   pub rule-low : r < 256
-  rule-low = omega (arith, H .few)
-
-  pub in-table : 3 * r + 2 < length table
-  in-table = omega (arith, H .few, H .long)
+  rule-low = omega (arith, H .few, b .below)
 
   pub place-fits : (at + 2 * words ≤ length file) × (length file ≤ 16384)
-  place-fits = (denoted.body-fits H r below, H .short)
+  place-fits = (omega (arith, denoted.body-fits H r (b .below), b .stands, b .counted), H .short)
 
   same-words : words ≡ length (bodyAt (rulesOf file) r)
-  same-words = rule-words H r below
+  same-words = b .counted ∙ rule-words H r (b .below)
+
+  same-body : bodyIn file at words ≡ bodyAt (rulesOf file) r
+  same-body = ap₂ (bodyIn file) (b .stands) (b .counted) ∙ rule-body H r (b .below)
 
   room : top + 2 * length (bodyAt (rulesOf file) r) + 18 ≤ 16384
-  room = omega (arith, s .room below, place-fits, same-words)
+  room = omega (arith, b .follows, place-fits, same-words)
 
   deep-enough : length (bodyAt (rulesOf file) r) ≤ deepest
-  deep-enough = omega (arith, place-fits, same-words)
+  deep-enough = omega (arith, place-fits, same-words, b .deep)
 
-  pub first-turn : (O : List ℕ) → length O ≡ deepest → RuleTurn file r top deepest sizes P₀ (set S₀ (5 * r) top) O top (5 * r) 0 0
-  first-turn O lo =
-      turn-start (small-ranks H) rule-low room deep-enough (rule-gaps H r) (H .longer) P₀ S₀ O (s .pieces-long) (s .long) lo (s .low) (s .spells)
-      (body-parameters H r below) (body-legal H r below) (body-fits H r below) (body-room H r below) (rule-expansion H r below)
+  pub first-turn : {P S : List ℕ} → Spelt file n r table sizes P S top → (O : List ℕ) → length O ≡ deepest
+      → RuleTurn file r top deepest sizes P (set S (5 * r) top) O top (5 * r) 0 0
+  first-turn {P} {S} s O lo =
+      turn-start (small-ranks H) rule-low room deep-enough (rule-gaps H r) (H .longer) P S O (s .pieces-long) (s .long) lo (s .low) (s .spells)
+      (body-parameters H r (b .below)) (body-legal H r (b .below)) (body-fits H r (b .below)) (body-room H r (b .below)) (rule-expansion H r (b .below))
 
   module _ {P S O : List ℕ} {t gap depth i : ℕ} (x : RuleTurn file r top deepest sizes P S O t gap depth i) where
-    pub turns-within : i ≤ words
-    turns-within = omega (arith, x .within, same-words)
-
     module _ (more : i < words) (w : ℕ) (we : w ≡ wordIn file (at + 2 * i)) where
       this : drop i (bodyAt (rulesOf file) r) ≡ w ∷ drop (i + 1) (bodyAt (rulesOf file) r)
       this =
-          ap (drop i) (sym (rule-body H r below)) ∙ body-rest file at words (place-fits .0) i more
-          ∙ ap₂ (λ (v : ℕ) (l : List ℕ). v ∷ drop (i + 1) l) (sym we) (rule-body H r below)
+          ap (drop i) (sym same-body) ∙ body-rest file at words (place-fits .0) i more
+          ∙ ap₂ (λ (v : ℕ) (l : List ℕ). v ∷ drop (i + 1) l) (sym we) same-body
 
       pub word-fits : t < length P
       word-fits = put-fits (small-ranks H) rule-low room deep-enough (rule-gaps H r) (H .longer) x w this
@@ -122,14 +127,14 @@ module _ {file : List ℕ} {n r : ℕ} {table sizes P₀ S₀ : List ℕ} {top d
 
       pub rule-over : Spelt file n (suc r) table sizes (set P t stop) S (t + 1)
       rule-over =
-          let d = rule-done (small-ranks H) rule-low room deep-enough (rule-gaps H r) (H .longer) x no-more (λ c h. gap-measured H r c below h) in
+          let d = rule-done (small-ranks H) rule-low room deep-enough (rule-gaps H r) (H .longer) x no-more (λ c h. gap-measured H r c (b .below) h) in
           record {
             held = H;
             spells = d .0;
             long = x .starts-long;
             low = d .1;
             pieces-long = length-set P t stop ∙ x .pieces-long;
-            room = λ h. omega (arith, d .2, same-words, s .room below, rule-next H r below h);
+            room = λ h. omega (arith, d .2, same-words, b .follows, b .stands, b .counted, rule-next H r (b .below) h);
             fits = omega (arith, d .2, room);
           }
 

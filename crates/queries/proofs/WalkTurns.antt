@@ -71,8 +71,11 @@ module _ {P S sizes : List ℕ} {n p many : ℕ} (W : Walkable P S sizes n p man
               );
         }
 
-    pub turn-past : getD P i 0 < 32768 → (skip ≡ 0 → ⊥) → Walk P S sizes n p many Fr d (i + 1) (skip - 1) o out
-    turn-past l z =
+    -- a piece that is passed: only the words to skip change
+    passed : (skip′ : ℕ)
+        → ((G : ℕ → List ℕ) (top : ℕ) → Spelled G n top P S sizes → Walking G P n top Fr (G (5 * (n - 1))) i d skip (p + o) → Walking G P n top Fr (G (5 * (n - 1))) (suc i) d skip′ (p + o))
+        → Walk P S sizes n p many Fr d (i + 1) skip′ o out
+    passed skip′ f =
         record {
           out-length = x .out-length;
           frames-length = x .frames-length;
@@ -80,8 +83,11 @@ module _ {P S sizes : List ℕ} {n p many : ℕ} (W : Walkable P S sizes n p man
           deep = x .deep;
           shows = λ G top s t.
               let y = x .shows G top s t in
-              (subst (λ (k : ℕ). Walking G P n top Fr (G (5 * (n - 1))) k d (skip - 1) (p + o)) (sym (add-one i)) (walk-past (W .few-rules) (y .0) l (omega arith)), y .1);
+              (subst (λ (k : ℕ). Walking G P n top Fr (G (5 * (n - 1))) k d skip′ (p + o)) (sym (add-one i)) (f G top s (y .0)), y .1);
         }
+
+    pub turn-past : getD P i 0 < 32768 → (skip ≡ 0 → ⊥) → Walk P S sizes n p many Fr d (i + 1) (skip - 1) o out
+    turn-past l z = passed (skip - 1) (λ G top s w. walk-past (W .few-rules) w l (omega arith))
 
     pub turn-deep : getD P i 0 ≡ stop → 0 < d
     turn-deep e = walk-pop (W .few-rules) here e (in-tree (W .G) (W .top) (W .spells)) .0
@@ -106,19 +112,9 @@ module _ {P S sizes : List ℕ} {n p many : ℕ} (W : Walkable P S sizes n p man
     pub turn-over : 32768 ≤ getD P i 0 → (getD P i 0 ≡ stop → ⊥) → getD sizes (getD P i 0 - 32768) 0 ≤ skip
         → Walk P S sizes n p many Fr d (i + 1) (skip - getD sizes (getD P i 0 - 32768) 0) o out
     turn-over l u k =
-        record {
-          out-length = x .out-length;
-          frames-length = x .frames-length;
-          within = x .within;
-          deep = x .deep;
-          shows = λ G top s t.
-              let y = x .shows G top s t in
-              let m = s .measured (getD P i 0 - 32768) (turn-gap l u .0) in (
-                subst (λ (k : ℕ). Walking G P n top Fr (G (5 * (n - 1))) k d (skip - getD sizes (getD P i 0 - 32768) 0) (p + o)) (sym (add-one i))
-                    (subst (λ (v : ℕ). Walking G P n top Fr (G (5 * (n - 1))) (suc i) d (skip - v) (p + o)) (sym m) (walk-over (W .few-rules) (y .0) l u (omega arith))),
-                y .1,
-              );
-        }
+        passed (skip - getD sizes (getD P i 0 - 32768) 0) (λ G top s w.
+        let m = s .measured (getD P i 0 - 32768) (turn-gap l u .0) in
+        subst (λ (v : ℕ). Walking G P n top Fr (G (5 * (n - 1))) (suc i) d (skip - v) (p + o)) (sym m) (walk-over (W .few-rules) w l u (omega arith)))
 
     frames-agree : (v : ℕ) → Agree d (set Fr d v) Fr
     frames-agree v j k = getD-set-other Fr d j v 0 (omega arith)

@@ -21,7 +21,7 @@ use Rattle.laws.proofs.Lists.{all-cons}
 use Rattle.grammar.specs.Meaning.{readingOf, queryAnswer}
 use Rattle.grammar.specs.Measures.{Denotes}
 use Rattle.queries.specs.Pieces.{stop, stopped, unstopped, upTo, Walkable, Walked}
-use Rattle.queries.specs.Building.{rulesTaken, rulesOf, gapsOf, Spelt}
+use Rattle.queries.specs.Building.{rulesOf, gapsOf, Spelt}
 use Rattle.queries.proofs.Stops.{tree-word, small-unstopped, upTo-all, gap-at}
 use Rattle.queries.proofs.HeldRules.{named, first-place, none-over, plain, gap-measured}
 
@@ -72,17 +72,17 @@ module _ {file : List ℕ} {n : ℕ} {table sizes : List ℕ} (H : Denotes file 
       ∙ ap upTo (tree-stopped (treeOf R) (p .words)) ∙ upTo-all (treeOf R) (tree-unstopped (treeOf R) (p .words))
 
   -- N
-  pub start-size : getD sizes (5 * (n - 1)) 0 ≡ nodes (rulesOf file)
+  start-size : getD sizes (5 * (n - 1)) 0 ≡ nodes (rulesOf file)
   start-size =
       let z : 5 * (n - 1) ≡ 5 * (n - 1) + 0 = omega arith in
       ap (λ (k : ℕ). getD sizes k 0) z ∙ gap-measured H (n - 1) 0 (omega (arith, H .some)) (omega arith)
       ∙ ap (λ (k : ℕ). length (gapsOf file k)) (sym z) ∙ ap length start-gap
 
-  pub start-some : 1 ≤ nodes (rulesOf file)
+  start-some : 1 ≤ nodes (rulesOf file)
   start-some = tree-some (treeOf (rulesOf file)) (tree-plain (rulesOf file) (named H .is-formed) .tree)
 
   module _ {P S : List ℕ} {t : ℕ} (s : Spelt file n n table sizes P S t) where
-    pub walkable : (p many : ℕ) → p + many ≤ getD sizes (5 * (n - 1)) 0 → Walkable P S sizes n p many
+    pub walkable : (p many : ℕ) → p + many ≤ nodes (rulesOf file) → Walkable P S sizes n p many
     walkable p many h =
         record {
           G = gapsOf file;
@@ -95,7 +95,7 @@ module _ {file : List ℕ} {n : ℕ} {table sizes : List ℕ} (H : Denotes file 
           wide = H .longer;
           long = omega (arith, s .long);
           some-words = omega (arith, start-size, start-some);
-          fits = h;
+          fits = omega (arith, start-size);
         }
 
     pub window-words : (p many : ℕ) (out : List ℕ) → length out ≡ many → Walked P S sizes n p out → out ≡ take many (drop p (treeOf (rulesOf file)))
@@ -149,24 +149,18 @@ answer-refused file p many m x k e f a q out o =
     (q ∙ ap queryAnswer e ∙ ap (λ (v : WindowAnswer). v .answer) (sym w), o ∙ ap (λ (v : WindowAnswer). v .window) (sym w))
 
 module _ {file : List ℕ} {n : ℕ} {table sizes : List ℕ} (d : Denotes file n table sizes) (p many : ℕ) where
-  rules-are : rulesOf file ≡ d .rules
-  rules-are = ap rulesTaken (d .is)
-
-  size-is : getD sizes (5 * (n - 1)) 0 ≡ nodes (d .rules)
-  size-is = start-size d ∙ ap nodes rules-are
-
   -- a place outside the tree
-  pub answer-outside : getD sizes (5 * (n - 1)) 0 < p + many → (a : Answer) → a ≡ refusal POSITION 0 → (out : List ℕ) → out ≡ replicate many 65535
+  pub answer-outside : nodes (rulesOf file) < p + many → (a : Answer) → a ≡ refusal POSITION 0 → (out : List ℕ) → out ≡ replicate many 65535
       → (a ≡ windowAt file p many .answer) × (out ≡ windowAt file p many .window)
   answer-outside h a q out o =
-      let w = window-outside file p many (d .rules) (d .is) (omega (arith, size-is)) in
+      let w = window-outside file p many (rulesOf file) (named d .is) h in
       (q ∙ ap (λ (v : WindowAnswer). v .answer) (sym w), o ∙ ap (λ (v : WindowAnswer). v .window) (sym w))
 
   -- a window within it
-  pub answer-inside : p + many ≤ getD sizes (5 * (n - 1)) 0 → (m : Result ℕ) → m ≡ readingOf (read file) → (a : Answer) → a ≡ queryAnswer m
+  pub answer-inside : p + many ≤ nodes (rulesOf file) → (m : Result ℕ) → m ≡ readingOf (read file) → (a : Answer) → a ≡ queryAnswer m
       → (out : List ℕ) → out ≡ take many (drop p (treeOf (rulesOf file))) → (a ≡ windowAt file p many .answer) × (out ≡ windowAt file p many .window)
   answer-inside h m f a q out o =
-      let w = window-inside file p many (d .rules) (d .is) (omega (arith, size-is)) in (
+      let w = window-inside file p many (rulesOf file) (named d .is) h in (
         q ∙ ap queryAnswer (f ∙ ap readingOf (d .is)) ∙ ap (λ (v : WindowAnswer). v .answer) (sym w),
-        o ∙ ap (λ (rs : List Rule). take many (drop p (treeOf rs))) rules-are ∙ ap (λ (v : WindowAnswer). v .window) (sym w),
+        o ∙ ap (λ (v : WindowAnswer). v .window) (sym w),
       )

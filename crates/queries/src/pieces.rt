@@ -1,12 +1,14 @@
 // A grammar's bodies as gap strings.
 use grammar::bodies::rank_of;
 use grammar::file::word_at;
+use grammar::rules::place;
+use grammar::rules::words;
 use grammar::words::Word;
 use grammar::words::sort;
 ghost use mathlib.Core.Path.{_≡_};
 ghost use mathlib.Core.Bool.{true};
 ghost use Prim.Native.Nat.{ℕ, suc, _+_, _≤_, _<_};
-ghost use lib.ListN.{length, getD, replicate};
+ghost use lib.ListN.{length, getD};
 ghost use Rattle.model.specs.Words.{isParameter};
 ghost use Rattle.queries.specs.Pieces.{stop, codeFor, putIn, putTop, after, Closes, Closable, firstGap, ownPieces, ownTop, ownGap, ownStarts};
 ghost use Rattle.queries.specs.Building.{Spelt};
@@ -153,23 +155,23 @@ fn spell(
     requires { ⌜ Spelt (now file) n r (now table) (now sizes) (now pieces) (now starts) top × (r < n) × (8192 ≤ length (now opens)) ⌝ }
     ensures { λ t. ⌜ Spelt (now (file .entry)) n (suc r) (now (table .entry)) (now (sizes .entry)) (now (pieces .exit)) (now (starts .exit)) t ⌝ }
 {
-    let at = table[3 * r + 1] as usize;
-    let words = table[3 * r + 2] as usize;
+    let at = place(table, r);
+    let count = words(table, r);
     let mut t = top;
     let mut gap = 5 * r;
     let mut depth: usize = 0;
     let mut i: usize = 0;
     starts[gap] = t as u16;
-    while i < words {
+    while i < count {
         let w = word_at(file, at + 2 * i);
         let k = rank_of(table, w, n);
         let next = put_own(pieces, starts, w, t, gap);
         opens[depth] = (2048 * (k + 1) + first_gap(w)) as u16;
         t = next.top;
         gap = next.gap;
-        let place = close(sizes, starts, pieces, opens, t, depth + 1);
-        t = place.top;
-        depth = place.depth;
+        let closed = close(sizes, starts, pieces, opens, t, depth + 1);
+        t = closed.top;
+        depth = closed.depth;
         i += 1;
     }
     pieces[t] = STOP;

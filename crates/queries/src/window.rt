@@ -7,10 +7,11 @@ use grammar::refusals::Answer;
 use grammar::refusals::Refusal;
 use grammar::refusals::Verdict;
 use grammar::rules::Reading;
+use grammar::sizes::first_gaps;
 ghost use mathlib.Core.Path.{_≡_};
-ghost use Prim.Native.Nat.{_≤_, _+_, _*_, _-_};
-ghost use lib.ListN.{length, getD, take, drop, replicate};
-ghost use Rattle.model.specs.Trees.{treeOf};
+ghost use Prim.Native.Nat.{_≤_, _+_};
+ghost use lib.ListN.{length, take, drop, replicate};
+ghost use Rattle.model.specs.Trees.{nodes, treeOf};
 ghost use Rattle.model.specs.Answers.{windowAt, refusal};
 ghost use Rattle.model.specs.Refusals.{POSITION};
 ghost use Rattle.grammar.specs.Meaning.{answerIs};
@@ -31,7 +32,7 @@ pub fn window(file: &[u8], p: u64, out: &mut [u16]) -> Answer
             answer_of(r)
         }
         Reading::Taken(n) => {
-            let nodes = sizes[5 * (n - 1)];
+            let nodes = first_gaps(&sizes, n - 1, 5);
             let len = out.len() as u64;
             if nodes < len {
                 refuse(out);
@@ -72,7 +73,7 @@ fn refuse(out: &mut [u16])
 
 // The tree's words from p on, of a file that was read.
 fn expand(file: &[u8], n: usize, table: &[u16], sizes: &[u64], p: u64, out: &mut [u16])
-    requires { ⌜ Denotes (now file) n (now table) (now sizes) × (p + length (now out) ≤ getD (now sizes) (5 * (n - 1)) 0) ⌝ }
+    requires { ⌜ Denotes (now file) n (now table) (now sizes) × (p + length (now out) ≤ nodes (rulesOf (now file))) ⌝ }
     ensures { λ _. ⌜ now (out .exit) ≡ take (length (now (out .entry))) (drop p (treeOf (rulesOf (now (file .entry))))) ⌝ }
 {
     let mut pieces = [0u16; 16384];
