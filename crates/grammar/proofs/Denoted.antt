@@ -1,6 +1,6 @@
 -- What the tables of a file that denotes a grammar say of it: each rule's rank, body, gaps and size, and N. The laws by which the layers above read them.
 use Prim.Native.Nat.{ℕ, _+_, _*_, _-_, _≤_, _<_}
-use mathlib.Core.Path.{_≡_, sym, ap, ap₂, _∙_}
+use mathlib.Core.Path.{_≡_, refl, sym, ap, ap₂, _∙_}
 use mathlib.Core.Bool.{true}
 use mathlib.Core.List.{List, []}
 use native.Mathlib.Omega.{arith}
@@ -14,7 +14,7 @@ use Rattle.grammar.specs.Meaning.{bodyIn, wordIn, ranksIn, RanksSmall, p
 use Rattle.grammar.specs.Measures.{firstGaps, gapRows, Laid, Denotes}
 use Rattle.grammar.proofs.RuleLists.{ranks-of-entries}
 use Rattle.grammar.proofs.Rows.{gap-there}
-use Rattle.grammar.proofs.Entered.{inside, table-rank, table-words, table-fits, table-short, table-body, ranks-small}
+use Rattle.grammar.proofs.Entered.{inside, table-rank, BodyThere, body-there, ranks-small}
 use Rattle.grammar.proofs.Tabled.{word-there}
 use Rattle.grammar.proofs.Promise.{all-gaps, nodes-there}
 
@@ -40,7 +40,7 @@ module _ {file : List ℕ} {n : ℕ} {table sizes : List ℕ} (d : Denotes file 
       ∙ ranks-of-entries 18 (d .rules) (replicate (length table - length (entries 18 (d .rules))) 0)
 
   pub ranks-few : RanksSmall n table
-  ranks-few = ranks-small n file table laid n (omega arith)
+  ranks-few = ranks-small laid n (omega arith)
 
   module _ (r : ℕ) (below : r < n) where
     abbrev place : ℕ
@@ -54,26 +54,29 @@ module _ {file : List ℕ} {n : ℕ} {table sizes : List ℕ} (d : Denotes file 
 
     -- a rule's entries are in the tables
     pub entry-inside : (3 * r + 2 < length table) × (5 * r + 5 ≤ length sizes)
-    entry-inside = let i = inside n file table laid r below sizes (d .longer) in (i .1, i .2)
+    entry-inside = let i = inside laid r below sizes (d .longer) in (i .1, i .2)
 
     pub rank-is : getD table (3 * r) 0 ≡ getD (ranksOf (d .rules)) r 0
-    rank-is = table-rank n file table laid r below
+    rank-is = table-rank laid r below
+
+    there : BodyThere file (bodyAt (d .rules) r) place words
+    there = body-there laid r below refl refl
 
     -- the body stands within the file
     pub body-fits : place + 2 * words ≤ length file
-    body-fits = table-fits n file table laid r below
+    body-fits = there .fits
 
     pub body-short : words ≤ 8192
-    body-short = table-short n file table laid r below
+    body-short = omega (arith, there .short)
 
     pub words-are : words ≡ length (bodyAt (d .rules) r)
-    words-are = table-words n file table laid r below
+    words-are = there .many
 
     pub body-is : bodyIn file place words ≡ bodyAt (d .rules) r
-    body-is = table-body n file table laid r below
+    body-is = there .is
 
     pub word-is : (i : ℕ) → i < words → wordIn file (place + 2 * i) ≡ getD (bodyAt (d .rules) r) i 0
-    word-is i h = sym (word-there n file table laid r below i h)
+    word-is i h = sym (word-there laid r below there i h)
 
     -- it is one complete tree, as the end of a subtree needs it
     pub body-tree : isTree (ranksIn n table) (bodyIn file place words) ≡ true

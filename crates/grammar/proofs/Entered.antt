@@ -48,9 +48,16 @@ entry-of file place (x ∷ rs) b (suc r) h = after (entry-of file next rs (b .1)
           within = omega (arith, E .within, ap at e1);
         }
 
+-- a body stands in the file at a place, with so many words
+pub record BodyThere (file body : List ℕ) (at words : ℕ) : Type 0 where
+  pub fits : at + 2 * words ≤ length file
+  pub short : at + 2 * words ≤ 16384
+  pub many : words ≡ length body
+  pub is : bodyIn file at words ≡ body
+
 -- the table says of rule r
-module _ {R : List Rule} (n : ℕ) (file table : List ℕ) (M : Laid R n file table) where
-  pub few : n ≤ 256
+module _ {R : List Rule} {n : ℕ} {file table : List ℕ} (M : Laid R n file table) where
+  few : n ≤ 256
   few = omega (arith, formed-parts R (M .is-formed) .not-many, M .count)
 
   entered-at : (k : ℕ) → k < 3 * n → getD table k 0 ≡ getD (entries 18 R) k 0
@@ -65,20 +72,12 @@ module _ {R : List Rule} (n : ℕ) (file table : List ℕ) (M : Laid R n file ta
     pub table-rank : getD table (3 * r) 0 ≡ getD (ranksOf R) r 0
     table-rank = entered-at (3 * r) (omega arith) ∙ entry .rank
 
-    pub table-words : getD table (3 * r + 2) 0 ≡ length (bodyAt R r)
-    table-words = entered-at (3 * r + 2) (omega arith) ∙ entry .words
-
-    pub table-fits : getD table (3 * r + 1) 0 + 2 * getD table (3 * r + 2) 0 ≤ length file
-    table-fits = omega (arith, table-words, entered-at (3 * r + 1) (omega arith), entry .within, M .within)
-
-    pub table-short : getD table (3 * r + 2) 0 ≤ 8192
-    table-short = omega (arith, table-fits, M .short)
-
-    pub table-body : bodyIn file (getD table (3 * r + 1) 0) (getD table (3 * r + 2) 0) ≡ bodyAt R r
-    table-body =
-        ap (bodyIn file (getD table (3 * r + 1) 0)) table-words
-        ∙ ap (λ (p : ℕ). bodyIn file p (length (bodyAt R r))) (entered-at (3 * r + 1) (omega arith))
-        ∙ entry .body
+    pub body-there : {at words : ℕ} → at ≡ getD table (3 * r + 1) 0 → words ≡ getD table (3 * r + 2) 0 → BodyThere file (bodyAt R r) at words
+    body-there {at} {words} e f =
+        let place : at ≡ getD (entries 18 R) (3 * r + 1) 0 = e ∙ entered-at (3 * r + 1) (omega arith) in
+        let many : words ≡ length (bodyAt R r) = f ∙ entered-at (3 * r + 2) (omega arith) ∙ entry .words in
+        let fits : at + 2 * words ≤ length file = omega (arith, entry .within, M .within) in
+        record { fits = fits; short = omega (arith, M .short); many = many; is = rw (many, place) (entry .body) }
 
   pub ranks-below : (r : ℕ) → r ≤ n → (j : ℕ) → j < r → getD (ranksIn r table) j 0 ≡ getD (ranksOf R) j 0
   ranks-below r h j l = rank-in r table j l ∙ table-rank j (omega arith)

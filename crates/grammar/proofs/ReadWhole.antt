@@ -1,6 +1,6 @@
 -- The model's reading of a file, case by case: too large, a head that is refused, and the rules after the head.
 use Prim.Native.Nat.{ℕ, _+_, _≤_, _<_}
-use mathlib.Core.Path.{_≡_, ap, _∙_}
+use mathlib.Core.Path.{_≡_, sym, ap, _∙_}
 use mathlib.Core.Bool.{true}
 use mathlib.Core.List.{List, []}
 use mathlib.Core.Option.{none}
@@ -35,6 +35,9 @@ module _ (file : List ℕ) (h : length file ≤ 16384) where
 
     four : payloadLength file ≡ 4
     four = eqb-true (payloadLength file) 4 (not-false _ (firstOf-none-iff (headRefusals file) .0 (answer .0) .1 .1 .0))
+
+    pub counted : n ≡ ruleCount file
+    counted = sym (answer .1)
 
     pub head-bounds : (10 ≤ length file) × (1 ≤ n) × (n ≤ 256)
     head-bounds =

@@ -19,7 +19,7 @@ use Rattle.grammar.specs.Meaning.{bodyIn, wordIn, ranksIn, padded}
 use Rattle.grammar.specs.Measures.{ownBy, beforeBy, gapRows, Laid, RowsBelow}
 use Rattle.grammar.proofs.BodyWords.{body-word}
 use Rattle.grammar.proofs.Order.{number-class, no-number, class-is-parameter}
-use Rattle.grammar.proofs.Entered.{table-fits, table-words, table-body, ranks-below}
+use Rattle.grammar.proofs.Entered.{BodyThere, ranks-below}
 use Rattle.grammar.proofs.Agreeing.{Below, sum-same, before-same}
 use Rattle.grammar.proofs.GapsFound.{SoFar, passed, before-there}
 
@@ -36,13 +36,7 @@ body-front : (file : List ℕ) (at words i : ℕ) → i ≤ words → bodyIn fil
 body-front file at words i h =
     ap wordsIn (sym (take-take (2 * i) (2 * words) (drop at file) (omega arith))) ∙ words-take i (take (2 * words) (drop at file))
 
-module _ {R : List Rule} (n : ℕ) (file table : List ℕ) (M : Laid R n file table) (r : ℕ) (below : r < n) where
-  abbrev at : ℕ
-  at = getD table (3 * r + 1) 0
-
-  abbrev words : ℕ
-  words = getD table (3 * r + 2) 0
-
+module _ {R : List Rule} {n : ℕ} {file table : List ℕ} (M : Laid R n file table) (r : ℕ) (below : r < n) where
   pub count : r < length R
   count = omega (arith, M .count)
 
@@ -55,7 +49,7 @@ module _ {R : List Rule} (n : ℕ) (file table : List ℕ) (M : Laid R n file ta
         env = formed-env R (M .is-formed);
         there = omega (arith, expansions-solve R (M .is-formed) .0, count);
         small = λ j h. rule-of R (M .is-formed) j (omega (arith, count)) .rank-small;
-        agree = ranks-below n file table M r (omega arith);
+        agree = ranks-below M r (omega arith);
         rest = more ++ replicate (len - length (rows ++ more)) 0;
         rows = e ∙ append-assoc rows more (replicate (len - length (rows ++ more)) 0);
       }
@@ -63,34 +57,35 @@ module _ {R : List Rule} (n : ℕ) (file table : List ℕ) (M : Laid R n file ta
   legal : T (all (isLegal r) (bodyAt R r))
   legal = rule-of R (M .is-formed) r count .legal
 
-  pub size-found : (sizes : List ℕ) → RowsBelow r R sizes → sumOf (ownBy sizes 5) (bodyIn file at words) ≡ size (getD (expansions R) r [])
-  size-found sizes B =
-      let k = known sizes (length sizes) [] (B .rows ∙ ap (padded (length sizes)) (sym (append-nil (gapRows (take r (expansions R)))))) in
-      ap (sumOf (ownBy sizes 5)) (table-body n file table M r below)
-      ∙ sum-same (ranksOf R) (expansions R) r (ranksIn r table) sizes k (bodyAt R r) legal
-      ∙ sym (rule-size R (M .is-formed) r count)
+  module _ {at words : ℕ} (B : BodyThere file (bodyAt R r) at words) where
+    pub size-found : (sizes : List ℕ) → RowsBelow r R sizes → sumOf (ownBy sizes 5) (bodyIn file at words) ≡ size (getD (expansions R) r [])
+    size-found sizes D =
+        let k = known sizes (length sizes) [] (D .rows ∙ ap (padded (length sizes)) (sym (append-nil (gapRows (take r (expansions R)))))) in
+        ap (sumOf (ownBy sizes 5)) (B .is)
+        ∙ sum-same (ranksOf R) (expansions R) r (ranksIn r table) sizes k (bodyAt R r) legal
+        ∙ sym (rule-size R (M .is-formed) r count)
 
-  module _ (i : ℕ) (inside : i < words) where
-    pub in-body : i < length (bodyAt R r)
-    in-body = omega (arith, table-words n file table M r below)
+    module _ (i : ℕ) (inside : i < words) where
+      pub in-body : i < length (bodyAt R r)
+      in-body = omega (arith, B .many)
 
-    pub word-there : getD (bodyAt R r) i 0 ≡ wordIn file (at + 2 * i)
-    word-there = ap (λ (l : List ℕ). getD l i 0) (sym (table-body n file table M r below)) ∙ body-word file at words (table-fits n file table M r below) i inside
+      pub word-there : getD (bodyAt R r) i 0 ≡ wordIn file (at + 2 * i)
+      word-there = ap (λ (l : List ℕ). getD l i 0) (sym (B .is)) ∙ body-word file at words (B .fits) i inside
 
-    module _ (w k : ℕ) (is : w ≡ wordIn file (at + 2 * i)) (number : k ≡ whenParameter 0 (λ i. i) w) where
-      pub is-other : k ≡ 0 → isParameter (getD (bodyAt R r) i 0) ≡ false
-      is-other z = ap isParameter (word-there ∙ sym is) ∙ no-number w (sym number ∙ z)
+      module _ (w k : ℕ) (is : w ≡ wordIn file (at + 2 * i)) (number : k ≡ whenParameter 0 (λ i. i) w) where
+        pub is-other : k ≡ 0 → isParameter (getD (bodyAt R r) i 0) ≡ false
+        is-other z = ap isParameter (word-there ∙ sym is) ∙ no-number w (sym number ∙ z)
 
-      pub is-parameter : (k ≡ 0 → ⊥) → isParameter (getD (bodyAt R r) i 0) ≡ true
-      is-parameter z = ap isParameter (word-there ∙ sym is) ∙ class-is-parameter w k (number-class w k (sym number) z)
+        pub is-parameter : (k ≡ 0 → ⊥) → isParameter (getD (bodyAt R r) i 0) ≡ true
+        is-parameter z = ap isParameter (word-there ∙ sym is) ∙ class-is-parameter w k (number-class w k (sym number) z)
 
-    pub before-found : (len last m : ℕ) (sizes : List ℕ) → SoFar R r len i last m sizes → isParameter (getD (bodyAt R r) i 0) ≡ true
-        → (b : ℕ) → b ≡ beforeBy (rankOf (ranksIn r table)) sizes (bodyIn file at i) → b ≡ sizeBefore (suc (passed R r i)) (getD (expansions R) r [])
-    before-found len last m sizes S p b e =
-        let k = known sizes len (take (passed R r i) (gapSizes (getD (expansions R) r []))) (S .rows) in
-        let front : bodyIn file at i ≡ take i (bodyAt R r) = body-front file at words i (omega arith) ∙ ap (take i) (table-body n file table M r below) in
-        e
-        ∙ ap (beforeBy (rankOf (ranksIn r table)) sizes) front
-        ∙ before-same (ranksOf R) (expansions R) r (ranksIn r table) sizes k (take i (bodyAt R r))
-        (all-split (isLegal r) (take i (bodyAt R r)) (drop i (bodyAt R r)) (rw (take-append-drop i (bodyAt R r)) legal) .0)
-        ∙ before-there R (M .is-formed) r count i in-body p
+      pub before-found : (len last m : ℕ) (sizes : List ℕ) → SoFar R r len i last m sizes → isParameter (getD (bodyAt R r) i 0) ≡ true
+          → (b : ℕ) → b ≡ beforeBy (rankOf (ranksIn r table)) sizes (bodyIn file at i) → b ≡ sizeBefore (suc (passed R r i)) (getD (expansions R) r [])
+      before-found len last m sizes S p b e =
+          let k = known sizes len (take (passed R r i) (gapSizes (getD (expansions R) r []))) (S .rows) in
+          let front : bodyIn file at i ≡ take i (bodyAt R r) = body-front file at words i (omega arith) ∙ ap (take i) (B .is) in
+          e
+          ∙ ap (beforeBy (rankOf (ranksIn r table)) sizes) front
+          ∙ before-same (ranksOf R) (expansions R) r (ranksIn r table) sizes k (take i (bodyAt R r))
+          (all-split (isLegal r) (take i (bodyAt R r)) (drop i (bodyAt R r)) (rw (take-append-drop i (bodyAt R r)) legal) .0)
+          ∙ before-there R (M .is-formed) r count i in-body p

@@ -116,6 +116,10 @@ abbrev pub afterRules : ℕ → List ℕ → List ℕ
 afterRules zero bytes = bytes
 afterRules (suc r) bytes = afterRules r (afterRecord bytes)
 
+-- the rules of a file, as many as its head says
+abbrev pub writtenRules : List ℕ → List Rule
+writtenRules file = rulesIn (ruleCount file) (drop 10 file)
+
 -- the model's reading of the rules' records alone
 abbrev pub readRecords : ℕ → List Rule → List ℕ → Result (List Rule)
 readRecords zero rules bytes = taken rules

@@ -10,9 +10,9 @@ use lib.ListN.{length, take, drop, getD, replicate}
 use Rattle.model.specs.Words.{classOf, byClass}
 use Rattle.model.specs.Trees.{Rule, gapSizes, size, largestSize, expansions, lowestHuge}
 use Rattle.model.specs.Refusals.{Result, taken, refused}
-use Rattle.model.specs.File.{read}
+use Rattle.model.specs.File.{read, ruleCount}
 use Rattle.laws.specs.Formed.{formed}
-use Rattle.grammar.specs.Meaning.{rulesIn, entries, Bodies, placeAfter, padded, readingIs, readingOf, ruleTable}
+use Rattle.grammar.specs.Meaning.{writtenRules, entries, Bodies, placeAfter, padded, readingIs, readingOf, ruleTable}
 use Rattle.grammar.specs.declared.rules.Reading.{Reading}
 use Rattle.grammar.specs.declared.sizes.Measured.{Measured}
 use Rattle.grammar.specs.declared.sizes.Measured.the-variants.{Fits, Huge}
@@ -55,9 +55,9 @@ pub record Laid (rules : List Rule) (n : ℕ) (file table : List ℕ) : Type 0 w
   pub long : 768 ≤ length table
   pub entered : table ≡ padded (length table) (entries 18 rules)
 
--- a file whose n rules were read and are a grammar
-abbrev pub Measurable : ℕ → List ℕ → List ℕ → Type 0
-Measurable n file table = Laid (rulesIn n (drop 10 file)) n file table
+-- a file whose rules were read and are a grammar
+abbrev pub Measurable : List ℕ → List ℕ → Type 0
+Measurable file table = Laid (writtenRules file) (ruleCount file) file table
 
 -- the size table once the r lowest rules were measured: their rows, then 0
 pub record RowsBelow (r : ℕ) (rules : List Rule) (sizes : List ℕ) : Type 0 where

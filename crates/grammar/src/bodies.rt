@@ -161,7 +161,14 @@ pub(crate) fn parameter(w: u16) -> usize
 }
 
 // "7": the body obeys document 01 as the body of a rule of rank k above the rules of the table.
-pub(crate) fn shaped(file: &[u8], at: usize, words: usize, k: usize, table: &[u16], r: usize) -> bool
+pub(crate) fn shaped(
+    file: &[u8],
+    at: usize,
+    words: usize,
+    k: usize,
+    table: &[u16],
+    r: usize,
+) -> bool
     requires { ⌜ (at + 2 * words ≤ length (now file)) × (words ≤ 8192) × (3 * r ≤ length (now table)) × RanksSmall r (now table) ⌝ }
     ensures { λ b. ⌜ b ≡ obeys (ranksIn r (now (table .entry))) k (bodyIn (now (file .entry)) at words) ⌝ }
 {

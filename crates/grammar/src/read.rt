@@ -10,9 +10,10 @@ use crate::sizes::measure;
 ghost use mathlib.Core.Path.{_≡_};
 ghost use Prim.Native.Nat.{_≤_};
 ghost use mathlib.Core.List.{[]};
-ghost use lib.ListN.{length, drop, replicate};
-ghost use Rattle.model.specs.File.{read, readRules, wholeRefusals};
-ghost use Rattle.grammar.specs.Meaning.{padded, entries, rulesIn};
+ghost use lib.ListN.{length, replicate};
+ghost use Rattle.model.specs.Refusals.{taken};
+ghost use Rattle.model.specs.File.{read, ruleCount, wholeRefusals};
+ghost use Rattle.grammar.specs.Meaning.{headResult, writtenRules};
 ghost use Rattle.grammar.specs.Measures.{Measurable, ReadIs};
 
 // 9; the records; 8, 10, 11. Refused, both tables hold only 0.
@@ -34,10 +35,10 @@ pub fn read(file: &[u8], table: &mut [u16], sizes: &mut [u64]) -> Reading
 
 // After the head: the rules' records, then the whole.
 fn records(file: &[u8], n: usize, table: &mut [u16], sizes: &mut [u64]) -> Reading
-    requires { ⌜ (10 ≤ length (now file)) × (length (now file) ≤ 16384) × (1 ≤ n) × (n ≤ 256) × (768 ≤ length (now table)) × (1280 ≤ length (now sizes))
+    requires { ⌜ (length (now file) ≤ 16384) × (headResult (now file) ≡ taken n) × (768 ≤ length (now table)) × (1280 ≤ length (now sizes))
         × (now table ≡ replicate (length (now table)) 0) × (now sizes ≡ replicate (length (now sizes)) 0) ⌝ }
     ensures { λ r.
-        ⌜ ReadIs (now (file .entry)) r (readRules n [] (drop 10 (now (file .entry)))) (now (table .entry)) (now (table .exit)) (now (sizes .entry)) (now (sizes .exit)) ⌝ }
+        ⌜ ReadIs (now (file .entry)) r (read (now (file .entry))) (now (table .entry)) (now (table .exit)) (now (sizes .entry)) (now (sizes .exit)) ⌝ }
 {
     match rules(file, n, table) {
         Reading::Refused(x, k) => {
@@ -56,10 +57,9 @@ fn records(file: &[u8], n: usize, table: &mut [u16], sizes: &mut [u64]) -> Readi
 
 // "10 (lowest rule), 11".
 fn whole(file: &[u8], n: usize, table: &mut [u16], sizes: &mut [u64]) -> Reading
-    requires { ⌜ Measurable n (now file) (now table) × (1 ≤ n) × (n ≤ 256) × (1280 ≤ length (now sizes)) × (now sizes ≡ replicate (length (now sizes)) 0)
-        × (now table ≡ padded (length (now table)) (entries 18 (rulesIn n (drop 10 (now file))))) ⌝ }
+    requires { ⌜ Measurable (now file) (now table) × (n ≡ ruleCount (now file)) × (1280 ≤ length (now sizes)) × (now sizes ≡ replicate (length (now sizes)) 0) ⌝ }
     ensures { λ r.
-        ⌜ ReadIs (now (file .entry)) r (wholeRefusals (rulesIn n (drop 10 (now (file .entry)))) []) (now (table .entry)) (now (table .exit)) (now (sizes .entry)) (now (sizes .exit)) ⌝ }
+        ⌜ ReadIs (now (file .entry)) r (wholeRefusals (writtenRules (now (file .entry))) []) (now (table .entry)) (now (table .exit)) (now (sizes .entry)) (now (sizes .exit)) ⌝ }
 {
     match measure(file, n, table, sizes) {
         Measured::Huge(r) => {

@@ -2,16 +2,19 @@
 use crate::bodies::parameter;
 use crate::bodies::rank_of;
 use crate::file::word_at;
+use crate::rules::place;
+use crate::rules::words;
 use crate::words::Word;
 use crate::words::sort;
 ghost use mathlib.Core.Path.{_≡_};
 ghost use Prim.Native.Nat.{suc, _+_, _*_, _≤_, _<_, _^_};
 ghost use mathlib.Core.List.{[]};
-ghost use lib.ListN.{length, drop, take, getD, replicate};
+ghost use lib.ListN.{length, getD, replicate};
 ghost use Rattle.model.specs.Words.{rankOf};
+ghost use Rattle.model.specs.File.{ruleCount};
 ghost use Rattle.model.specs.Trees.{size, expansions, largestSize};
 ghost use Rattle.laws.specs.Sums.{sumOf};
-ghost use Rattle.grammar.specs.Meaning.{bodyIn, ranksIn, RanksSmall, rulesIn};
+ghost use Rattle.grammar.specs.Meaning.{bodyIn, ranksIn, RanksSmall, writtenRules};
 ghost use Rattle.grammar.specs.Measures.{firstGaps, ownBy, beforeBy, SizesSmall, Measurable, RowsBelow, RuleMeasured, MeasuredIs};
 
 // The size that no rule is over.
@@ -69,7 +72,14 @@ pub(crate) fn total(file: &[u8], at: usize, words: usize, sizes: &[u64]) -> u64
 
 // The nodes before the word at a place of a body, read from the place to the left: the trees between a word and the place are counted, so that a word
 // with more children than those is known to stand over the place.
-pub(crate) fn before(file: &[u8], at: usize, place: usize, table: &[u16], r: usize, sizes: &[u64]) -> u64
+pub(crate) fn before(
+    file: &[u8],
+    at: usize,
+    place: usize,
+    table: &[u16],
+    r: usize,
+    sizes: &[u64],
+) -> u64
     requires { ⌜ (at + 2 * place ≤ length (now file)) × (place ≤ 8192) × (1280 ≤ length (now sizes)) × SizesSmall (now sizes)
         × (3 * r ≤ length (now table)) × RanksSmall r (now table) ⌝ }
     ensures { λ n.
@@ -101,12 +111,12 @@ pub(crate) enum Measured {
 
 // The gaps of the n rules, from the lowest up, into the size table, which is all 0 before.
 pub(crate) fn measure(file: &[u8], n: usize, table: &[u16], sizes: &mut [u64]) -> Measured
-    requires { ⌜ Measurable n (now file) (now table) × (1280 ≤ length (now sizes)) × (now sizes ≡ replicate (length (now sizes)) 0) ⌝ }
-    ensures { λ m. ⌜ MeasuredIs m (rulesIn n (drop 10 (now (file .entry)))) (now (sizes .entry)) (now (sizes .exit)) ⌝ }
+    requires { ⌜ Measurable (now file) (now table) × (n ≡ ruleCount (now file)) × (1280 ≤ length (now sizes)) × (now sizes ≡ replicate (length (now sizes)) 0) ⌝ }
+    ensures { λ m. ⌜ MeasuredIs m (writtenRules (now (file .entry))) (now (sizes .entry)) (now (sizes .exit)) ⌝ }
 {
     let mut r = 0;
     while r < n {
-        if !measure_rule(file, n, table, r, sizes) {
+        if !measure_rule(file, table, r, sizes) {
             return Measured::Huge(r);
         }
         r += 1;
@@ -114,29 +124,27 @@ pub(crate) fn measure(file: &[u8], n: usize, table: &[u16], sizes: &mut [u64]) -
     Measured::Fits
 }
 
-// The gaps of rule r of the n rules into the size table, by the gaps of the rules below it; false where its size is over the largest.
-fn measure_rule(file: &[u8], n: usize, table: &[u16], r: usize, sizes: &mut [u64]) -> bool
-    requires { ⌜ Measurable n (now file) (now table) × (r < n) × (1280 ≤ length (now sizes)) × RowsBelow r (rulesIn n (drop 10 (now file))) (now sizes) ⌝ }
-    ensures { λ b. ⌜ RuleMeasured b r (rulesIn n (drop 10 (now (file .entry)))) (now (sizes .exit)) ⌝ }
+// The gaps of rule r into the size table, by the gaps of the rules below it; false where its size is over the largest.
+fn measure_rule(file: &[u8], table: &[u16], r: usize, sizes: &mut [u64]) -> bool
+    requires { ⌜ Measurable (now file) (now table) × (r < ruleCount (now file)) × (1280 ≤ length (now sizes)) × RowsBelow r (writtenRules (now file)) (now sizes) ⌝ }
+    ensures { λ b. ⌜ RuleMeasured b r (writtenRules (now (file .entry))) (now (sizes .exit)) ⌝ }
 {
-    let at = table[3 * r + 1] as usize;
-    let words = table[3 * r + 2] as usize;
-    let all = total(file, at, words, sizes);
+    let all = total(file, place(table, r), words(table, r), sizes);
     if LARGEST_SIZE < all {
         return false;
     }
-    gaps(file, n, table, r, all, sizes);
+    gaps(file, table, r, all, sizes);
     true
 }
 
 // The same for a rule of the given size: a gap is what stands before a parameter without what stands before the one before it.
-fn gaps(file: &[u8], n: usize, table: &[u16], r: usize, all: u64, sizes: &mut [u64])
-    requires { ⌜ Measurable n (now file) (now table) × (r < n) × (1280 ≤ length (now sizes)) × RowsBelow r (rulesIn n (drop 10 (now file))) (now sizes)
-        × (all ≡ size (getD (expansions (rulesIn n (drop 10 (now file)))) r [])) × (all ≤ largestSize) ⌝ }
-    ensures { λ _. ⌜ RowsBelow (suc r) (rulesIn n (drop 10 (now (file .entry)))) (now (sizes .exit)) ⌝ }
+fn gaps(file: &[u8], table: &[u16], r: usize, all: u64, sizes: &mut [u64])
+    requires { ⌜ Measurable (now file) (now table) × (r < ruleCount (now file)) × (1280 ≤ length (now sizes)) × RowsBelow r (writtenRules (now file)) (now sizes)
+        × (all ≡ size (getD (expansions (writtenRules (now file))) r [])) × (all ≤ largestSize) ⌝ }
+    ensures { λ _. ⌜ RowsBelow (suc r) (writtenRules (now (file .entry))) (now (sizes .exit)) ⌝ }
 {
-    let at = table[3 * r + 1] as usize;
-    let words = table[3 * r + 2] as usize;
+    let at = place(table, r);
+    let words = words(table, r);
     let mut last: u64 = 0;
     let mut m = 5 * r;
     let mut i = 0;

@@ -4,12 +4,12 @@ use mathlib.Core.Path.{_≡_, sym, ap, _∙_}
 use mathlib.Core.Option.{some}
 use mathlib.Core.List.{[]}
 use native.Mathlib.Omega.{arith}
-use lib.ListN.{length, drop, replicate}
+use lib.ListN.{length, replicate}
 use denote.Ref.{now}
 use Rattle.model.specs.Trees.{expansions, lowestHuge}
 use Rattle.model.specs.File.{wholeRefusals}
 use Rattle.grammar.specs.declared.refusals.Refusal.the-variants as refusals
-use Rattle.grammar.specs.Meaning.{rulesIn}
+use Rattle.grammar.specs.Meaning.{writtenRules}
 use Rattle.grammar.proofs.ReadLaws.{refused-is, taken-is, whole-huge, whole-empty, whole-taken}
 use Rattle.grammar.proofs.WholeRead.{Filled, filled, huge-there}
 use borrow.Author.Needs.{needs}
@@ -34,27 +34,27 @@ enum-known-r c = search needs
 huge : (c : tie.After-r)
     → let s = c .before .before .before .before .before .before .before .before .before .before in
     let k = c .r .given .0 .0 in
-    (lowestHuge 0 (expansions (rulesIn (s .args .n) (drop 10 (now (s .args .file))))) ≡ some k) × (k < s .args .n)
+    (lowestHuge 0 (expansions (writtenRules (now (s .args .file)))) ≡ some k) × (k < 256)
     × (length (c .before .before .before .before .measure .last .1 .1 .1 .0) ≡ length (now (s .args .sizes)))
 huge c =
     let s = c .before .before .before .before .before .before .before .before .before .before in
     let n = s .args .n in
     let M = s .pre .0 in
     let m = c .before .before .before .before .measure in
-    huge-there (rulesIn n (drop 10 (now (s .args .file)))) (M .is-formed) n (M .count) (s .pre .2) (m .result) (now (s .args .sizes)) (m .last .1 .1 .1 .0) (m .ensures)
+    huge-there (writtenRules (now (s .args .file))) (M .is-formed) n (M .count ∙ sym (s .pre .1)) (m .result) (now (s .args .sizes)) (m .last .1 .1 .1 .0) (m .ensures)
     (c .r .given .0 .0) (c .r .given .1)
 
 -- every rule fits
 fit : (c : tie.After-enum-told)
     → let s = c .before .before .before .before .before .before .before .before .before .before in
-    Filled (rulesIn (s .args .n) (drop 10 (now (s .args .file)))) (s .args .n) (now (s .args .sizes)) (c .before .before .before .before .measure .last .1 .1 .1 .0)
+    Filled (writtenRules (now (s .args .file))) (s .args .n) (now (s .args .sizes)) (c .before .before .before .before .measure .last .1 .1 .1 .0)
 fit c =
     let s = c .before .before .before .before .before .before .before .before .before .before in
     let n = s .args .n in
     let M = s .pre .0 in
     let m = c .before .before .before .before .measure in
-    filled (rulesIn n (drop 10 (now (s .args .file)))) (M .is-formed) n (M .count) (s .pre .2) (m .result) (now (s .args .sizes)) (m .last .1 .1 .1 .0) (m .ensures)
-    (c .enum-told .given .1) (s .pre .4) (s .pre .3)
+    filled (writtenRules (now (s .args .file))) (M .is-formed) n (M .count ∙ sym (s .pre .1)) (m .result) (now (s .args .sizes)) (m .last .1 .1 .1 .0) (m .ensures)
+    (c .enum-told .given .1) (s .pre .3) (s .pre .2)
 
 -- src/read.rt:66:13
 clear-words-requires : tie.Need-clear-words-requires
@@ -74,13 +74,13 @@ enum-told c = search needs
 
 -- src/read.rt:71:34
 sub-first-gaps : tie.Need-sub-first-gaps
-sub-first-gaps c = search needs
+sub-first-gaps c = fit (c .before) .some-rule
 
 -- src/read.rt:71:16
 first-gaps-requires : tie.Need-first-gaps-requires
 first-gaps-requires c κs =
     let f = fit (c .before) in
-    (omega (arith, f .as-long), omega arith, f .small)
+    (f .room, omega arith, f .small)
 
 -- src/read.rt:72:17
 clear-words-requires-2 : tie.Need-clear-words-requires-2
@@ -103,53 +103,53 @@ returns : tie.Need-returns
 returns c =
     let d = c .before .before .before .before .before .before .before .before .before .before .before in
     let s = d .before .before .before .before .before .before .before .before .before .before in
-    let rules = rulesIn (s .args .n) (drop 10 (now (s .args .file))) in
+    let rules = writtenRules (now (s .args .file)) in
     let f = fit d in
     refused-is (now (s .args .file)) (wholeRefusals rules []) (now (s .args .table)) _ (now (s .args .sizes)) _ refusals.Empty 0
     (whole-empty rules (f .none-over) (sym (f .counted) ∙ sym (c .before .before .before .before .before .before .before .before .before .first-gaps .ensures .0) ∙ c .before .before .before .before .before .before .before .before .if1 .taken))
     (c .before .before .before .before .before .before .clear-words2 .ensures)
     (c .before .before .clear-sizes2 .ensures ∙ ap (λ (k : ℕ). replicate k 0) (f .as-long))
 
--- src/read.rt:58:1
+-- src/read.rt:59:1
 same-length-3 : tie.Need-same-length-3
 same-length-3 c = search needs
 
--- src/read.rt:58:1
+-- src/read.rt:59:1
 same-length-4 : tie.Need-same-length-4
 same-length-4 c = search needs
 
--- src/read.rt:58:1
+-- src/read.rt:59:1
 returns-2 : tie.Need-returns-2
 returns-2 c =
     let d = c .before .before .before .before .before .before .before .before .before in
     let s = d .before .before .before .before .before .before .before .before .before .before in
-    let rules = rulesIn (s .args .n) (drop 10 (now (s .args .file))) in
+    let rules = writtenRules (now (s .args .file)) in
     let k = d .r .given .0 .0 in
     refused-is (now (s .args .file)) (wholeRefusals rules []) (now (s .args .table)) _ (now (s .args .sizes)) _ refusals.Huge (k + 1)
     (whole-huge rules k (huge d .0))
     (c .before .before .before .before .before .before .clear-words .ensures)
     (c .before .before .clear-sizes .ensures ∙ ap (λ (k : ℕ). replicate k 0) (huge d .2))
 
--- src/read.rt:58:1
+-- src/read.rt:59:1
 same-length-5 : tie.Need-same-length-5
 same-length-5 c = search needs
 
--- src/read.rt:58:1
+-- src/read.rt:59:1
 same-length-6 : tie.Need-same-length-6
 same-length-6 c = search needs
 
--- src/read.rt:58:1
+-- src/read.rt:59:1
 returns-3 : tie.Need-returns-3
 returns-3 c =
     let d = c .before .before .before in
     let s = d .before .before .before .before .before .before .before .before .before .before in
     let n = s .args .n in
-    let rules = rulesIn n (drop 10 (now (s .args .file))) in
+    let rules = writtenRules (now (s .args .file)) in
     let M = s .pre .0 in
     let f = fit d in
     taken-is (now (s .args .file)) (wholeRefusals rules []) (now (s .args .table)) _ (now (s .args .sizes)) _ n rules
     (whole-taken rules (f .none-over) (λ q. c .if1 .left (c .before .first-gaps .ensures .0 ∙ f .counted ∙ q)))
-    (M .count) (s .pre .5) (f .gaps) (M .bodies, M .within, M .short)
+    (M .count ∙ sym (s .pre .1)) (M .entered) (f .gaps) (M .bodies, M .within, M .short)
 
 pub whole-spec : {M : Type 1} → statement M
 whole-spec =

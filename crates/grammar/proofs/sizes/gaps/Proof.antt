@@ -4,10 +4,11 @@ use Prim.Native.Nat.{suc, _+_, _*_, _≤_, _<_, _-_}
 use mathlib.Core.Logic.{⊎-elim}
 use native.Mathlib.Omega.{arith}
 use denote.Ref.{now}
-use lib.ListN.{length, drop, getD, set, length-set}
-use Rattle.grammar.specs.Meaning.{rulesIn}
+use lib.ListN.{length, set, length-set}
+use Rattle.laws.specs.Formed.{bodyAt}
+use Rattle.grammar.specs.Meaning.{writtenRules}
 use Rattle.grammar.specs.Measures.{RowsBelow}
-use Rattle.grammar.proofs.Entered.{inside, table-fits, table-short, table-words, ranks-small}
+use Rattle.grammar.proofs.Entered.{BodyThere, body-there, inside, ranks-small}
 use Rattle.grammar.proofs.GapsFound.{SoFar, so-same, start, next-room, other-word, parameter-word, finish}
 use Rattle.grammar.proofs.Tabled.{count, in-body, is-other, is-parameter, before-found}
 use Rattle.grammar.proofs.sizes.gaps.Statement.{statement}
@@ -16,110 +17,79 @@ use Rattle.grammar.proofs.sizes.gaps.Reads as reads
 use Rattle.grammar.proofs.sizes.gaps.Lts as lts
 use Rattle.grammar.proofs.bodies.parameter.Reads as parameter-reads
 use Rattle.grammar.proofs.file.word_at.Reads as word-at-reads
+use Rattle.grammar.proofs.rules.place.Reads as place-reads
+use Rattle.grammar.proofs.rules.words.Reads as words-reads
 use Rattle.grammar.proofs.sizes.before.Reads as before-reads
 
 abbrev Inv-loop : tie.InvT-loop
-Inv-loop file n table r all sizes₀ at words last₀ m₀ i₀ sizes last m i = (i ≤ words) × SoFar (rulesIn n (drop 10 file)) r (length sizes₀) i last m sizes
+Inv-loop file table r all sizes₀ at words last₀ m₀ i₀ sizes last m i = (i ≤ words) × SoFar (writtenRules file) r (length sizes₀) i last m sizes
 
 abbrev μ-loop : tie.MeasureT-loop
-μ-loop file n table r all sizes₀ at words last₀ m₀ i₀ sizes last m i = words - i
+μ-loop file table r all sizes₀ at words last₀ m₀ i₀ sizes last m i = words - i
 
--- rule r's entries are in the tables, and its body is in the file
+-- rule r's entries are in the tables
 at-start : (s : tie.Start Inv-loop μ-loop)
     → (s .args .r < 256) × (3 * s .args .r + 2 < length (now (s .args .table))) × (5 * s .args .r + 5 ≤ length (now (s .args .sizes)))
-at-start s = inside (s .args .n) (now (s .args .file)) (now (s .args .table)) (s .pre .0) (s .args .r) (s .pre .1) (now (s .args .sizes)) (s .pre .2)
+at-start s = inside (s .pre .0) (s .args .r) (s .pre .1) (now (s .args .sizes)) (s .pre .2)
 
-body-there : (s : tie.Start Inv-loop μ-loop)
-    → let table = now (s .args .table) in
-    let words = getD table (3 * s .args .r + 2) 0 in
-    (getD table (3 * s .args .r + 1) 0 + 2 * words ≤ length (now (s .args .file))) × (words ≤ 8192) × (length (now (s .args .file)) ≤ 16384)
-body-there s =
-    let n = s .args .n in
-    let file = now (s .args .file) in
-    let table = now (s .args .table) in
-    (table-fits n file table (s .pre .0) (s .args .r) (s .pre .1), table-short n file table (s .pre .0) (s .args .r) (s .pre .1), s .pre .0 .short)
+-- src/sizes.rt:146:9
+place-requires : tie.Need-place-requires Inv-loop μ-loop
+place-requires c κs = at-start (c .before .before .before) .1
 
--- src/sizes.rt:138:20
-mul-at : tie.Need-mul-at Inv-loop μ-loop
-mul-at c = omega (arith, at-start (c .before .before .before))
+-- src/sizes.rt:147:9
+words-requires : tie.Need-words-requires Inv-loop μ-loop
+words-requires c κs = at-start (c .before .before .before .before) .1
 
--- src/sizes.rt:138:20
-add-at : tie.Need-add-at Inv-loop μ-loop
-add-at c = omega (arith, at-start (c .before .before .before))
+-- its body is in the file
+there : (c : tie.After-words Inv-loop μ-loop)
+    → let a = c .before .before .before .before .before .args in
+    BodyThere (now (a .file)) (bodyAt (writtenRules (now (a .file))) (a .r)) (c .before .place .result) (c .words .result)
+there c =
+    let s = c .before .before .before .before .before in
+    body-there (s .pre .0) (s .args .r) (s .pre .1) (c .before .place .ensures) (c .words .ensures)
 
--- src/sizes.rt:138:14
-mul-at-2 : tie.Need-mul-at-2 Inv-loop μ-loop
-mul-at-2 c = omega (arith, at-start (c .before .before .before))
-
--- src/sizes.rt:138:14
-shared-slice-read-at : tie.Need-shared-slice-read-at Inv-loop μ-loop
-shared-slice-read-at c = omega (arith, at-start (c .before .before .before .before))
-
--- src/sizes.rt:138:14
-cast-at : tie.Need-cast-at Inv-loop μ-loop
-cast-at c = omega (arith, c .shared-slice-known3 .given (3 * c .before .before .before .before .args .r + 1))
-
--- src/sizes.rt:139:23
-mul-words : tie.Need-mul-words Inv-loop μ-loop
-mul-words c = omega (arith, at-start (c .before .before .before .before))
-
--- src/sizes.rt:139:23
-add-words : tie.Need-add-words Inv-loop μ-loop
-add-words c = omega (arith, at-start (c .before .before .before .before))
-
--- src/sizes.rt:139:17
-mul-words-2 : tie.Need-mul-words-2 Inv-loop μ-loop
-mul-words-2 c = omega (arith, at-start (c .before .before .before .before))
-
--- src/sizes.rt:139:17
-shared-slice-read-words : tie.Need-shared-slice-read-words Inv-loop μ-loop
-shared-slice-read-words c = omega (arith, at-start (c .before .before .before .before .before))
-
--- src/sizes.rt:139:17
-cast-words : tie.Need-cast-words Inv-loop μ-loop
-cast-words c = omega (arith, c .shared-slice-known4 .given (3 * c .before .before .before .before .before .args .r + 2))
-
--- src/sizes.rt:141:17
+-- src/sizes.rt:149:17
 mul-m : tie.Need-mul-m Inv-loop μ-loop
 mul-m c = omega (arith, at-start (c .before .before .before .before .before))
 
--- src/sizes.rt:143:5
+-- src/sizes.rt:151:5
 loop-holds : tie.Need-loop-holds Inv-loop μ-loop
 loop-holds c =
     let s = c .before .before .before .before .before in
     let a = s .args in (
       omega arith,
-      start (rulesIn (a .n) (drop 10 (now (a .file)))) (s .pre .0 .is-formed) (a .r) (count (a .n) (now (a .file)) (now (a .table)) (s .pre .0) (a .r) (s .pre .1))
+      start (writtenRules (now (a .file))) (s .pre .0 .is-formed) (a .r) (count (s .pre .0) (a .r) (s .pre .1))
           (now (a .sizes)) (s .pre .3),
     )
 
--- src/sizes.rt:144:41
+-- src/sizes.rt:152:41
 mul-word-at : tie.Need-mul-word-at Inv-loop μ-loop
-mul-word-at c = omega (arith, body-there (c .before .before .before .before .before .before .before))
+mul-word-at c = let t = there (c .before .before) in omega (arith, t .fits, t .short)
 
--- src/sizes.rt:144:36
+-- src/sizes.rt:152:36
 add-word-at : tie.Need-add-word-at Inv-loop μ-loop
-add-word-at c = omega (arith, body-there (c .before .before .before .before .before .before .before))
+add-word-at c = let t = there (c .before .before) in omega (arith, t .fits, t .short)
 
--- src/sizes.rt:144:22
+-- src/sizes.rt:152:22
 word-at-requires : tie.Need-word-at-requires Inv-loop μ-loop
-word-at-requires c κs = omega (arith, body-there (c .before .before .before .before .before .before .before))
+word-at-requires c κs = let t = there (c .before .before) in omega (arith, t .fits, t .short)
 
--- src/sizes.rt:144:12
+-- src/sizes.rt:152:12
 parameter-requires : tie.Need-parameter-requires Inv-loop μ-loop
 parameter-requires c κs = search needs
 
--- src/sizes.rt:145:17
+-- src/sizes.rt:153:17
 before-requires : tie.Need-before-requires Inv-loop μ-loop
 before-requires c κs =
     let s = c .before .before .before .before .before .before .before .before .before .before .before in
-    let l = c .before .before .before .before .before .loop in (
-      omega (arith, body-there s),
-      omega (arith, body-there s),
+    let l = c .before .before .before .before .before .loop in
+    let t = there (c .before .before .before .before .before .before) in (
+      omega (arith, t .fits),
+      omega (arith, t .short),
       omega (arith, l .inv .1 .long, s .pre .2),
       l .inv .1 .small,
       omega (arith, at-start s),
-      ranks-small (s .args .n) (now (s .args .file)) (now (s .args .table)) (s .pre .0) (s .args .r) (omega (arith, s .pre .1)),
+      ranks-small (s .pre .0) (s .args .r) (omega (arith, s .pre .1)),
     )
 
 -- the next gap has its place
@@ -130,7 +100,7 @@ room-left c =
     let l = c .loop in
     let M = s .pre .0 in
     let h =
-    next-room (rulesIn (a .n) (drop 10 (now (a .file)))) (M .is-formed) (a .r) (count (a .n) (now (a .file)) (now (a .table)) M (a .r) (s .pre .1))
+    next-room (writtenRules (now (a .file))) (M .is-formed) (a .r) (count M (a .r) (s .pre .1))
     (length (now (a .sizes))) (at-start s .2) (l .i) (l .last) (l .m) (l .sizes) (l .inv .1) in
     (omega (arith, at-start s), omega (arith, at-start s, l .inv .1 .long))
 
@@ -139,51 +109,50 @@ found : (c : tie.After-before2 Inv-loop μ-loop)
     → let l = c .before .before .before .before .before .before .loop in
     let a = c .before .before .before .before .before .before .before .before .before .before .before .before .args in
     let b = c .before2 .result in
-    (l .last ≤ b) × SoFar (rulesIn (a .n) (drop 10 (now (a .file)))) (a .r) (length (now (a .sizes))) (l .i + 1) b (l .m + 1) (set (l .sizes) (l .m) (b - l .last))
+    (l .last ≤ b) × SoFar (writtenRules (now (a .file))) (a .r) (length (now (a .sizes))) (l .i + 1) b (l .m + 1) (set (l .sizes) (l .m) (b - l .last))
 found c =
     let s = c .before .before .before .before .before .before .before .before .before .before .before .before in
     let a = s .args in
     let M = s .pre .0 in
     let file = now (a .file) in
-    let table = now (a .table) in
     let l = c .before .before .before .before .before .before .loop in
-    let here : l .i < getD table (3 * a .r + 2) 0 = omega arith in
+    let t = there (c .before .before .before .before .before .before .before) in
     let p =
-    is-parameter (a .n) file table M (a .r) (s .pre .1) (l .i) here (c .before .before .before .before .word-at .result) (c .before .before .before .parameter .result)
+    is-parameter M (a .r) (s .pre .1) t (l .i) (omega arith) (c .before .before .before .before .word-at .result) (c .before .before .before .parameter .result)
     (c .before .before .before .before .word-at .ensures) (c .before .before .before .parameter .ensures) (c .before .before .if1 .taken) in
     let len = length (now (a .sizes)) in
     let b = c .before2 .result in
-    let q = before-found (a .n) file table M (a .r) (s .pre .1) (l .i) here len (l .last) (l .m) (l .sizes) (l .inv .1) p b (c .before2 .ensures .0) in
-    parameter-word (rulesIn (a .n) (drop 10 file)) (M .is-formed) (a .r) (count (a .n) file table M (a .r) (s .pre .1)) len
+    let q = before-found M (a .r) (s .pre .1) t (l .i) (omega arith) len (l .last) (l .m) (l .sizes) (l .inv .1) p b (c .before2 .ensures .0) in
+    parameter-word (writtenRules file) (M .is-formed) (a .r) (count M (a .r) (s .pre .1)) len
     (at-start s .2)
     (l .i) (l .last) (l .m) (l .sizes) (l .inv .1) (omega (arith, s .pre .4, s .pre .5))
-    (in-body (a .n) file table M (a .r) (s .pre .1) (l .i) here) p b q
+    (in-body M (a .r) (s .pre .1) t (l .i) (omega arith)) p b q
 
--- src/sizes.rt:146:24
+-- src/sizes.rt:154:24
 sub-sizes : tie.Need-sub-sizes Inv-loop μ-loop
 sub-sizes c = found c .0
 
--- src/sizes.rt:146:13
+-- src/sizes.rt:154:13
 mul-sizes : tie.Need-mul-sizes Inv-loop μ-loop
 mul-sizes c = omega (arith, room-left (c .before .before .before .before .before .before))
 
--- src/sizes.rt:146:13
+-- src/sizes.rt:154:13
 slice-write-sizes : tie.Need-slice-write-sizes Inv-loop μ-loop
 slice-write-sizes c = omega (arith, room-left (c .before .before .before .before .before .before))
 
--- src/sizes.rt:148:13
+-- src/sizes.rt:156:13
 add-m : tie.Need-add-m Inv-loop μ-loop
 add-m c = omega (arith, room-left (c .before .before .before .before .before .before))
 
--- src/sizes.rt:150:9
+-- src/sizes.rt:158:9
 add-i : tie.Need-add-i Inv-loop μ-loop
-add-i c = omega (arith, body-there (c .before .before .before .before .before .before .before .before .before .before))
+add-i c = omega (arith, there (c .before .before .before .before .before) .short)
 
--- src/sizes.rt:143:5
+-- src/sizes.rt:151:5
 loop-less : tie.Need-loop-less Inv-loop μ-loop
 loop-less c = omega arith
 
--- src/sizes.rt:143:5
+-- src/sizes.rt:151:5
 loop-again : tie.Need-loop-again Inv-loop μ-loop
 loop-again c =
     ⊎-elim
@@ -195,16 +164,15 @@ loop-again c =
     let a = s .args in
     let M = s .pre .0 in
     let file = now (a .file) in
-    let table = now (a .table) in
     let l = c .before .before .before .before .loop in
-    let here : l .i < getD table (3 * a .r + 2) 0 = omega arith in
+    let t = there (c .before .before .before .before .before) in
     let p =
-    is-other (a .n) file table M (a .r) (s .pre .1) (l .i) here (c .before .before .word-at .result) (c .before .parameter .result)
+    is-other M (a .r) (s .pre .1) t (l .i) (omega arith) (c .before .before .word-at .result) (c .before .parameter .result)
     (c .before .before .word-at .ensures) (c .before .parameter .ensures) (w .0 .left) in
     let S =
-    other-word (rulesIn (a .n) (drop 10 file)) (M .is-formed) (a .r) (count (a .n) file table M (a .r) (s .pre .1)) (length (now (a .sizes)))
+    other-word (writtenRules file) (M .is-formed) (a .r) (count M (a .r) (s .pre .1)) (length (now (a .sizes)))
     (at-start s .2) (l .i) (l .last) (l .m) (l .sizes) (l .inv .1)
-    (in-body (a .n) file table M (a .r) (s .pre .1) (l .i) here) p in
+    (in-body M (a .r) (s .pre .1) t (l .i) (omega arith)) p in
     (omega arith, so-same S (w .1) (w .2) (w .3)))
     (c .if1 .came)
 
@@ -212,33 +180,33 @@ loop-again c =
 finished : (c : tie.After-loop Inv-loop μ-loop)
     → let l = c .before .loop in
     let a = c .before .before .before .before .before .before .before .args in
-    (l .last ≤ a .all) × RowsBelow (suc (a .r)) (rulesIn (a .n) (drop 10 (now (a .file)))) (set (l .sizes) (l .m) (a .all - l .last))
+    (l .last ≤ a .all) × RowsBelow (suc (a .r)) (writtenRules (now (a .file))) (set (l .sizes) (l .m) (a .all - l .last))
 finished c =
     let s = c .before .before .before .before .before .before .before in
     let a = s .args in
     let M = s .pre .0 in
     let l = c .before .loop in
-    finish (rulesIn (a .n) (drop 10 (now (a .file)))) (M .is-formed) (a .r) (count (a .n) (now (a .file)) (now (a .table)) M (a .r) (s .pre .1)) (length (now (a .sizes)))
+    finish (writtenRules (now (a .file))) (M .is-formed) (a .r) (count M (a .r) (s .pre .1)) (length (now (a .sizes)))
     (at-start s .2) (l .i) (l .last) (l .m) (l .sizes) (l .inv .1) (omega (arith, s .pre .4, s .pre .5))
-    (omega (arith, table-words (a .n) (now (a .file)) (now (a .table)) M (a .r) (s .pre .1))) (a .all) (s .pre .4)
+    (omega (arith, there (c .before .before) .many)) (a .all) (s .pre .4)
 
--- src/sizes.rt:152:16
+-- src/sizes.rt:160:16
 sub-sizes-2 : tie.Need-sub-sizes-2 Inv-loop μ-loop
 sub-sizes-2 c = finished c .0
 
--- src/sizes.rt:152:5
+-- src/sizes.rt:160:5
 mul-sizes-2 : tie.Need-mul-sizes-2 Inv-loop μ-loop
 mul-sizes-2 c = omega (arith, room-left (c .before))
 
--- src/sizes.rt:152:5
+-- src/sizes.rt:160:5
 slice-write-sizes-2 : tie.Need-slice-write-sizes-2 Inv-loop μ-loop
 slice-write-sizes-2 c = omega (arith, room-left (c .before))
 
--- src/sizes.rt:133:1
+-- src/sizes.rt:141:1
 same-length : tie.Need-same-length Inv-loop μ-loop
 same-length c = simp length-set (c .before .loop .inv .1 .long)
 
--- src/sizes.rt:133:1
+-- src/sizes.rt:141:1
 returns : tie.Need-returns Inv-loop μ-loop
 returns c = finished c .1
 
@@ -248,16 +216,8 @@ gaps-spec =
     (tie.spec
     Inv-loop
     μ-loop
-    mul-at
-    add-at
-    mul-at-2
-    shared-slice-read-at
-    cast-at
-    mul-words
-    add-words
-    mul-words-2
-    shared-slice-read-words
-    cast-words
+    place-requires
+    words-requires
     mul-m
     loop-holds
     mul-word-at
