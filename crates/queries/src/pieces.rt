@@ -179,7 +179,7 @@ fn spell(
 }
 
 // The gaps of all n rules as pieces, from the lowest rule up; says how many pieces there are.
-pub fn build(
+pub(crate) fn build(
     file: &[u8],
     n: usize,
     table: &[u16],

@@ -5,7 +5,7 @@ ghost use Rattle.queries.specs.Pieces.{Walkable, Walked};
 
 // Fills `out` with the words of the start rule, of n rules, from p on. A gap that ends before p is passed at one step; one that is gone into leaves a place to
 // come back to, and names only gaps of lower rules, so that there are at most 255 such places.
-pub fn walk(pieces: &[u16], starts: &[u16], sizes: &[u64], n: usize, p: u64, out: &mut [u16])
+pub(crate) fn walk(pieces: &[u16], starts: &[u16], sizes: &[u64], n: usize, p: u64, out: &mut [u16])
     requires { ⌜ Walkable (now pieces) (now starts) (now sizes) n p (length (now out)) ⌝ }
     ensures { λ _. ⌜ length (now (out .exit)) ≡ length (now (out .entry)) ⌝ }
     ensures { λ _. ⌜ Walked (now (pieces .entry)) (now (starts .entry)) (now (sizes .entry)) n p (now (out .exit)) ⌝ }
