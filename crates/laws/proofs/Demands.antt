@@ -7,16 +7,17 @@ use lib.Dec.{T}
 use lib.ListN.{take}
 use Rattle.model.specs.Trees.{Rule, treeOf}
 use Rattle.model.specs.Refusals.{taken}
-use Rattle.model.specs.File.{read}
+use Rattle.model.specs.File.{read, afterRecord, largestFile}
 use Rattle.model.specs.Edits.{Update, allAtOnce, apart}
-use Rattle.model.specs.Answers.{checked, counted, labelAt, windowAt, update, pack}
-use Rattle.model.specs.Program.{program}
+use Rattle.model.specs.Answers.{checked, counted, labelAt, windowAt, update, pack, leastWork}
+use Rattle.model.specs.Program.{program, updateIn}
 use Rattle.laws.specs.Conditions.{Exactly, FilledFile, FilledWindow, readConditions, labelConditions, windowConditions, updateConditions, packConditions, programConditions, answerIn}
 use Rattle.laws.specs.Orders.{Reordered}
-use Rattle.laws.specs.Returned.{UpdateReturns, PackReturns}
+use Rattle.laws.specs.Returned.{UpdateReturns, PackReturns, fileOf}
 use Rattle.laws.specs.Runs.{Call, asked, AllAccepted, lastFile}
 use Rattle.laws.proofs.Refusals.{checked-exactly, counted-exactly, labelAt-exactly, windowAt-exactly, update-exactly, pack-exactly, windowAt-filled, update-filled, pack-filled}
 use Rattle.laws.proofs.Program.{program-exactly}
+use Rattle.laws.proofs.Recorded.{program-recorded}
 use Rattle.laws.proofs.Grammar.{tree-plain}
 use Rattle.laws.proofs.Returned.{update-returns, pack-returns}
 use Rattle.laws.proofs.Several.{several}
@@ -54,6 +55,12 @@ demand-2 = update-returns
 
 pub demand-2-packing : (room work : ℕ) (tree : List ℕ) → pack room work tree .answer .number ≡ 0 → PackReturns tree (pack room work tree)
 demand-2-packing = pack-returns
+
+-- the program's output, accepted: the updater's answer with its counts, then the file
+pub demand-2-program : (input : List ℕ) → answerIn (program input) .number ≡ 0
+    → let x = update largestFile leastWork (afterRecord (take 20495 input)) (updateIn (take 20495 input)) in
+    (answerIn (program input) ≡ x .answer) × (afterRecord (program input) ≡ fileOf x)
+demand-2-program = program-recorded
 
 -- 3. "A list of updates addressed to one base tree (no two at one position, none at a node another removes), applied one by one in any order with positions moved, ends in one and
 -- the same tree: the base with all made at once. Only premise: each call is accepted."

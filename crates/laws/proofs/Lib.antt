@@ -6,6 +6,7 @@ pub mod OrderMatters
 pub mod Conditions
 pub mod Refusals
 pub mod Program
+pub mod Recorded
 -- Demand 2: what accepted calls return, and the words that the work area has to hold.
 pub mod Returned
 pub mod Work
