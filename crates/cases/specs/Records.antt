@@ -10,10 +10,10 @@ use Rattle.grammar.specs.Meaning.{wordIn, lengthIn}
 use Rattle.cases.specs.declared.records.Found.{Found}
 use Rattle.cases.specs.declared.records.Found.the-variants.{File, Case, End}
 
--- a payload lies within its buffer, and a case's has its five fields
+-- a payload lies within its buffer, and a case's has its five fields and is no file's
 abbrev pub Fits : Found → List ℕ → List ℕ → Type 0
 Fits (File n) file case = n ≤ length file
-Fits (Case kind n) file case = (20 ≤ n) × (n ≤ length case)
+Fits (Case kind n) file case = (20 ≤ n) × (n ≤ length case) × (kind ≡ 1 → ⊥)
 Fits End file case = Unit {0}
 
 -- the 64-bit number at a place

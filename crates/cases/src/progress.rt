@@ -1,10 +1,10 @@
 // A run over a data file: from case to case, counting.
 use crate::records::Found;
 use crate::records::next;
-ghost use Prim.Native.Nat.{_+_, _≤_, _<_};
+ghost use Prim.Native.Nat.{_≤_, _<_};
 ghost use mathlib.Core.Path.{_≡_};
 ghost use lib.ListN.{length};
-ghost use Rattle.cases.specs.Progress.{Advanced, sizeOf};
+ghost use Rattle.cases.specs.Progress.{begun, withFound, endOf, judgedAs, Advanced};
 
 // The length of the file asked about, the case's kind and its payload's length, how many cases there were and how many of them were answered wrong,
 // and whether this one is a case or the data's end.
@@ -19,7 +19,7 @@ pub struct Progress {
 
 // Before the first case, with a file of the given length at hand.
 pub fn begin(length: usize) -> Progress
-    ensures { λ r. ⌜ (r .length ≡ length) × (r .size ≡ 20) × (r .cases ≡ 0) × (r .wrong ≡ 0) ⌝ }
+    ensures { λ r. ⌜ r ≡ begun length ⌝ }
 {
     Progress {
         length: length,
@@ -48,7 +48,7 @@ pub fn advance(fd: i32, file: &mut [u8], case: &mut [u8], p: Progress) -> Progre
 // A case is counted; where there is none, that is the end.
 fn with_found(p: Progress, length: usize, found: Found) -> Progress
     requires { ⌜ p .cases < 1000000 ⌝ }
-    ensures { λ r. ⌜ (r .length ≡ length) × (r .size ≡ sizeOf found) × (r .wrong ≡ p .wrong) × (p .cases ≤ r .cases) × (r .cases ≤ p .cases + 1) ⌝ }
+    ensures { λ r. ⌜ r ≡ withFound p length found ⌝ }
 {
     match found {
         Found::Case(kind, size) => Progress {
@@ -65,7 +65,7 @@ fn with_found(p: Progress, length: usize, found: Found) -> Progress
 }
 
 fn ended(p: Progress, length: usize) -> Progress
-    ensures { λ r. ⌜ (r .length ≡ length) × (r .size ≡ 20) × (r .wrong ≡ p .wrong) × (r .cases ≡ p .cases) ⌝ }
+    ensures { λ r. ⌜ r ≡ endOf p length ⌝ }
 {
     Progress {
         length: length,
@@ -80,7 +80,7 @@ fn ended(p: Progress, length: usize) -> Progress
 // The case was answered, rightly or not.
 pub fn judged(p: Progress, right: bool) -> Progress
     requires { ⌜ p .wrong < 1000000 ⌝ }
-    ensures { λ r. ⌜ (r .length ≡ p .length) × (r .size ≡ p .size) × (r .cases ≡ p .cases) × (p .wrong ≤ r .wrong) × (r .wrong ≤ p .wrong + 1) ⌝ }
+    ensures { λ r. ⌜ r ≡ judgedAs p right ⌝ }
 {
     if right {
         return p;

@@ -4,18 +4,19 @@ use grammar::file::word_at;
 ghost use Prim.Native.Nat.{_+_, _≤_, _<_};
 ghost use mathlib.Core.Path.{_≡_};
 ghost use mathlib.Core.Bool.{true};
+ghost use mathlib.Core.Logic.{_↔_};
 ghost use lib.ListN.{length};
 ghost use Rattle.grammar.specs.Meaning.{wordIn};
 ghost use Rattle.cases.specs.Records.{Fits, longIn, WordsAt};
 
 // What the next record is: a file, with its length, or a case, with its kind and its payload's length. It is at the start of `file` or of `case`.
-pub enum Found {
+pub(crate) enum Found {
     File(usize),
     Case(u16, usize),
     End,
 }
 
-pub fn next(fd: i32, file: &mut [u8], case: &mut [u8]) -> Found
+pub(crate) fn next(fd: i32, file: &mut [u8], case: &mut [u8]) -> Found
     ensures { λ r. ⌜ Fits r (now (file .exit)) (now (case .exit)) ⌝ }
 {
     let mut head = [0u8; 6];
@@ -82,7 +83,7 @@ fn long_at(bytes: &[u8], at: usize) -> u64
 // The words are those that stand at a place.
 pub fn words_are(words: &[u16], bytes: &[u8], at: usize) -> bool
     requires { ⌜ at + (length (now words) + length (now words)) ≤ length (now bytes) ⌝ }
-    ensures { λ r. ⌜ (r ≡ true → WordsAt (now (words .entry)) (now (bytes .entry)) at) × (WordsAt (now (words .entry)) (now (bytes .entry)) at → r ≡ true) ⌝ }
+    ensures { λ r. ⌜ (r ≡ true) ↔ WordsAt (now (words .entry)) (now (bytes .entry)) at ⌝ }
 {
     let mut i = 0;
     while i < words.len() {

@@ -15,9 +15,13 @@ use grammar::answers::count;
 use libc::STDOUT_FILENO;
 use queries::label::label;
 use queries::window::window;
-ghost use Prim.Native.Nat.{_+_, _≤_, _<_};
+ghost use Prim.Native.Nat.{_+_, _≤_, _<_, _-_, _/_};
+ghost use mathlib.Core.Path.{_≡_};
+ghost use mathlib.Core.Bool.{true};
+ghost use mathlib.Core.Logic.{_↔_};
 ghost use lib.ListN.{length};
-ghost use Rattle.cases.specs.Progress.{Ready, Further};
+ghost use Rattle.try_vectors.specs.Right.{CheckRight, LabelRight, WindowRight, Right};
+ghost use Rattle.try_vectors.specs.Running.{Turned, RanOut};
 
 fn main() {
     let mut space = [0u8; 16400];
@@ -54,6 +58,7 @@ fn over(name: &[u8], file: &mut [u8], ready: usize)
 // One case after the other, up to a number that no data reaches.
 fn run(name: &[u8], fd: i32, file: &mut [u8], ready: usize) -> Progress
     requires { ⌜ (ready ≤ length (now file)) × (length (now name) ≤ 64) ⌝ }
+    ensures { λ r. ⌜ RanOut ready r ⌝ }
 {
     let mut p = begin(ready);
     let mut turns: u64 = 0;
@@ -70,8 +75,8 @@ fn run(name: &[u8], fd: i32, file: &mut [u8], ready: usize) -> Progress
 
 // One case.
 fn turn(name: &[u8], fd: i32, file: &mut [u8], p: Progress) -> Progress
-    requires { ⌜ Ready p (now file) × (p .cases < 1000000) × (p .wrong < 1000000) × (length (now name) ≤ 64) ⌝ }
-    ensures { λ r. ⌜ Further p r (now (file .exit)) ⌝ }
+    requires { ⌜ (p .length ≤ length (now file)) × (p .cases < 1000000) × (p .wrong < 1000000) × (length (now name) ≤ 64) ⌝ }
+    ensures { λ r. ⌜ Turned p r (now (file .exit)) ⌝ }
 {
     let mut case = [0u8; 276];
     let q = advance(fd, file, &mut case, p);
@@ -100,6 +105,7 @@ fn print_wrong(name: &[u8], case: u64)
 // By the case's kind.
 fn is_right(kind: u16, file: &[u8], case: &[u8]) -> bool
     requires { ⌜ (20 ≤ length (now case)) × (length (now case) ≤ 276) ⌝ }
+    ensures { λ r. ⌜ (r ≡ true) ↔ Right kind (now (file .entry)) (now (case .entry)) ⌝ }
 {
     match kind {
         2 => check_is_right(file, case),
@@ -112,6 +118,7 @@ fn is_right(kind: u16, file: &[u8], case: &[u8]) -> bool
 // The checker's answer is the case's, and so is the counter's, with its N.
 fn check_is_right(file: &[u8], case: &[u8]) -> bool
     requires { ⌜ 20 ≤ length (now case) ⌝ }
+    ensures { λ r. ⌜ (r ≡ true) ↔ CheckRight (now (file .entry)) (now (case .entry)) ⌝ }
 {
     let q = asked(case);
     if !is_query_answer(check(file), q.number, q.place) {
@@ -127,6 +134,7 @@ fn check_is_right(file: &[u8], case: &[u8]) -> bool
 
 fn label_is_right(file: &[u8], case: &[u8]) -> bool
     requires { ⌜ 20 ≤ length (now case) ⌝ }
+    ensures { λ r. ⌜ (r ≡ true) ↔ LabelRight (now (file .entry)) (now (case .entry)) ⌝ }
 {
     let q = asked(case);
     let labelled = label(file, q.position);
@@ -140,6 +148,7 @@ fn label_is_right(file: &[u8], case: &[u8]) -> bool
 // The window has as many words as the case.
 fn window_is_right(file: &[u8], case: &[u8]) -> bool
     requires { ⌜ (20 ≤ length (now case)) × (length (now case) ≤ 276) ⌝ }
+    ensures { λ r. ⌜ (r ≡ true) ↔ WindowRight ((length (now (case .entry)) - 20) / 2) (now (file .entry)) (now (case .entry)) ⌝ }
 {
     let n = (case.len() - 20) / 2;
     let mut words = [7u16; 128];
@@ -148,6 +157,7 @@ fn window_is_right(file: &[u8], case: &[u8]) -> bool
 
 fn is_window(file: &[u8], case: &[u8], words: &mut [u16]) -> bool
     requires { ⌜ 20 + (length (now words) + length (now words)) ≤ length (now case) ⌝ }
+    ensures { λ r. ⌜ (r ≡ true) ↔ WindowRight (length (now (words .entry))) (now (file .entry)) (now (case .entry)) ⌝ }
 {
     let q = asked(case);
     let answer = window(file, q.position, words);

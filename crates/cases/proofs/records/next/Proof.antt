@@ -50,7 +50,7 @@ same-length-3 : tie.Need-same-length-3
 same-length-3 c = search needs
 
 returns-5 : tie.Need-returns-5
-returns-5 c = (omega arith, c .before .before .before .read-payload2 .ensures (c .if5 .taken))
+returns-5 c = (omega arith, c .before .before .before .read-payload2 .ensures (c .if5 .taken), c .before .before .before .before .before .before .if2 .left)
 
 same-length-4 : tie.Need-same-length-4
 same-length-4 c = search needs
