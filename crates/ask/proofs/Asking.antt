@@ -11,7 +11,8 @@ use Rattle.model.specs.Trees.{same}
 use Rattle.text.specs.Numbers.{numberIn}
 use Rattle.ask.specs.declared.question.Question.{Question}
 use Rattle.ask.specs.declared.question.Question.the-variants.{Check, Count, Window, Wrong}
-use Rattle.ask.specs.Question.{checkName, countName, labelName, windowName, labelAt, labelQuestion, bareQuestion, windowAt, windowQuestion, windowAllowed, questionOf, Allowed}
+use Rattle.text.specs.Operations.{checkName, countName, labelName, windowName}
+use Rattle.ask.specs.Question.{labelAt, labelQuestion, bareQuestion, windowAt, windowQuestion, windowAllowed, questionOf, Allowed}
 
 same-refl : (xs : List ℕ) → same xs xs ≡ true
 same-refl [] = refl

@@ -1,26 +1,14 @@
 -- What the arguments ask.
 use Prim.Native.Nat.{ℕ, _≤_}
 use mathlib.Core.Bool.{cond}
-use mathlib.Core.List.{List, [], _∷_}
+use mathlib.Core.List.{List}
 use mathlib.Core.Option.{Option, none, some}
 use lib.Dec.{leb, eqb}
 use Rattle.model.specs.Trees.{same}
 use Rattle.text.specs.Numbers.{numberIn}
+use Rattle.text.specs.Operations.{checkName, countName, labelName, windowName}
 use Rattle.ask.specs.declared.question.Question.{Question}
 use Rattle.ask.specs.declared.question.Question.the-variants.{Check, Count, Label, Window, Wrong}
-
--- "check", "count", "label" and "window"
-abbrev pub checkName : List ℕ
-checkName = 99 ∷ 104 ∷ 101 ∷ 99 ∷ 107 ∷ []
-
-abbrev pub countName : List ℕ
-countName = 99 ∷ 111 ∷ 117 ∷ 110 ∷ 116 ∷ []
-
-abbrev pub labelName : List ℕ
-labelName = 108 ∷ 97 ∷ 98 ∷ 101 ∷ 108 ∷ []
-
-abbrev pub windowName : List ℕ
-windowName = 119 ∷ 105 ∷ 110 ∷ 100 ∷ 111 ∷ 119 ∷ []
 
 -- "ask check", "ask count"
 abbrev pub bareQuestion : List ℕ → Question

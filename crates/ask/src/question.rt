@@ -14,7 +14,7 @@ pub enum Question {
 }
 
 // `arguments` is their count, the program's name among them. An argument that is missing is empty.
-pub fn parse(arguments: usize, name: &[u8], first: &[u8], second: &[u8]) -> Question
+pub(crate) fn parse(arguments: usize, name: &[u8], first: &[u8], second: &[u8]) -> Question
     ensures { λ r. ⌜ (r ≡ questionOf arguments (now (name .entry)) (now (first .entry)) (now (second .entry))) × Allowed r ⌝ }
 {
     if arguments == 2 {

@@ -19,7 +19,7 @@ ghost use Rattle.ask.specs.Question.{Allowed};
 ghost use Rattle.ask.specs.Replies.{replyTo};
 
 // The reply to a question, put at the start of `out`; `words` is for a window.
-pub fn put_reply(q: Question, file: &[u8], words: &mut [u16], out: &mut [u8]) -> usize
+pub(crate) fn put_reply(q: Question, file: &[u8], words: &mut [u16], out: &mut [u8]) -> usize
     requires { ⌜ Allowed q × (16384 ≤ length (now words)) × (82000 ≤ length (now out)) ⌝ }
     ensures { λ r. ⌜ Put (replyTo q (now (file .entry))) (now (out .entry)) 0 (now (out .exit)) r × Counts r (now (out .exit)) ⌝ }
 {

@@ -1,7 +1,7 @@
 -- `ask::question::bare` meets its contract: the names are compared as the model compares lists.
 use mathlib.Core.Path.{sym, _∙_}
 use denote.Ref.{now}
-use Rattle.ask.specs.Question.{checkName, countName}
+use Rattle.text.specs.Operations.{checkName, countName}
 use Rattle.ask.proofs.Asking.{same-is, bare-check, bare-count, bare-wrong}
 use borrow.Author.Needs.{needs}
 use Rattle.ask.proofs.question.bare.Statement.{statement}

@@ -3,7 +3,8 @@ use mathlib.Core.Path.{sym, ap, _∙_}
 use denote.Ref.{now}
 use borrow.Author.Tests.{not-true, not-false}
 use Rattle.text.specs.Numbers.{numberIs}
-use Rattle.ask.specs.Question.{labelName, labelAt}
+use Rattle.text.specs.Operations.{labelName}
+use Rattle.ask.specs.Question.{labelAt}
 use Rattle.ask.proofs.Asking.{same-is, not-label, is-label}
 use borrow.Author.Needs.{needs}
 use Rattle.ask.proofs.question.label_of.Statement.{statement}

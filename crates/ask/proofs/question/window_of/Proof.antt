@@ -5,7 +5,8 @@ use Prim.Native.Nat.{ℕ}
 use denote.Ref.{now}
 use borrow.Author.Tests.{not-true, not-false}
 use Rattle.text.specs.Numbers.{numberIn, numberIs}
-use Rattle.ask.specs.Question.{windowName, windowAt}
+use Rattle.text.specs.Operations.{windowName}
+use Rattle.ask.specs.Question.{windowAt}
 use Rattle.ask.proofs.Asking.{same-is, not-window, is-window}
 use borrow.Author.Needs.{needs}
 use Rattle.ask.proofs.question.window_of.Statement.{statement}

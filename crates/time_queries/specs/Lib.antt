@@ -1,0 +1,4 @@
+pub mod Task
+pub mod Inputs
+pub mod Tallies
+pub mod Runs
