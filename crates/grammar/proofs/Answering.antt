@@ -4,13 +4,25 @@ use mathlib.Core.Path.{_≡_, refl, sym, ap, subst, _∙_}
 use native.Mathlib.Omega.{arith}
 use mathlib.Core.List.{List}
 use Rattle.model.specs.Trees.{Rule, nodes}
-use Rattle.model.specs.Refusals.{Refusal, Result, taken, refused}
-use Rattle.model.specs.Answers.{Answer, CountAnswer, checkedAs, countedAs}
+use Rattle.model.specs.Refusals.{Refusal, Result, taken, refused, numberOf}
+use Rattle.model.specs.File.{read}
+use Rattle.model.specs.Answers.{Answer, CountAnswer, checked, checkedAs, countedAs, refusal}
+use Rattle.laws.proofs.Placed.{read-placed}
 use Rattle.grammar.specs.Meaning.{readingOf, queryAnswer}
 
-pub query-checked : (m : Result (List Rule)) → queryAnswer (readingOf m) ≡ checkedAs m
-query-checked (taken rules) = refl
-query-checked (refused x k) = refl
+-- a file's refusal comes with its own place
+pub query-refused : (file : List ℕ) (x : Refusal) (k : ℕ) → read file ≡ refused x k → queryAnswer {A = ℕ} (refused x k) ≡ refusal x k
+query-refused file x k e = ap (λ (place : ℕ). made place) (sym (read-placed file x k e))
+  where
+    made : ℕ → Answer
+    made place = record { number = numberOf x; place = place; opened = 0; rounds = 0; length = 0 }
+
+pub query-checked : (file : List ℕ) → queryAnswer (readingOf (read file)) ≡ checked file
+query-checked file = go (read file) refl
+  where
+    go : (m : Result (List Rule)) → read file ≡ m → queryAnswer (readingOf m) ≡ checkedAs m
+    go (taken rules) e = refl
+    go (refused x k) e = query-refused file x k e
 
 -- the node counter's answer
 pub count-taken : (m : Result (List Rule)) (rules : List Rule) (a : Answer) (k : ℕ) → m ≡ taken rules → a ≡ checkedAs m → k ≡ nodes rules

@@ -182,7 +182,7 @@ ruleTable len (refused x k) = replicate len 0
 abbrev pub verdictIs : Verdict → ℕ → ℕ → ℕ → answers.Answer
 verdictIs verdicts.Accepted opened rounds length = answers.accepted opened rounds length
 verdictIs (verdicts.Refused x k) opened rounds length =
-    record { number = model.numberOf (refusalIs x); place = model.placeOf (refusalIs x) k; opened = opened; rounds = rounds; length = length }
+    record { number = model.numberOf (refusalIs x); place = k; opened = opened; rounds = rounds; length = length }
 
 abbrev pub answerIs : Answer → answers.Answer
 answerIs a = verdictIs (a .verdict) (a .opened) (a .rounds) (a .length)
@@ -190,7 +190,7 @@ answerIs a = verdictIs (a .verdict) (a .opened) (a .rounds) (a .length)
 abbrev pub countIs : Counted → answers.CountAnswer
 countIs c = record { answer = answerIs (c .answer); nodes = c .nodes }
 
--- the answer of a query
+-- the answer of a query, by what was read
 abbrev pub queryAnswer : {A : Type 0} → Result A → answers.Answer
 queryAnswer (taken a) = answers.accepted 0 0 0
-queryAnswer (refused x k) = answers.refusal x k
+queryAnswer (refused x k) = record { number = model.numberOf x; place = k; opened = 0; rounds = 0; length = 0 }

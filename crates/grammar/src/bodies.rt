@@ -4,15 +4,14 @@ use crate::words::Word;
 use crate::words::sort;
 ghost use mathlib.Core.Path.{_≡_};
 ghost use Prim.Native.Nat.{_+_, _*_, _≤_, _<_};
-ghost use lib.ListN.{length, drop, take};
+ghost use lib.ListN.{length};
 ghost use Rattle.model.specs.Words.{rankOf, isParameter, whenParameter};
 ghost use mathlib.Core.Bool.{true};
 ghost use Rattle.model.specs.Trees.{all, same, those, parameters, isLegal, isTree, obeys};
 ghost use Rattle.model.specs.Edits.{subtree};
 ghost use Rattle.grammar.specs.Meaning.{bodyIn, ranksIn, RanksSmall};
 
-// The rule table: for rule r its rank, the place of its body in the file and the number of its body's words, at 3r, 3r + 1 and 3r + 2.
-// The rank of a word, by the table.
+// The rank of a word in a body that may call the r lowest rules of the table.
 pub fn rank_of(table: &[u16], w: u16, r: usize) -> usize
     requires { ⌜ 3 * r ≤ length (now table) ⌝ }
     ensures { λ k. ⌜ k ≡ rankOf (ranksIn r (now (table .entry))) w ⌝ }

@@ -2,7 +2,7 @@
 use crate::refusals::Refusal;
 ghost use mathlib.Core.Path.{_≡_};
 ghost use Prim.Native.Nat.{_+_, _≤_, _<_};
-ghost use lib.ListN.{length, drop, take};
+ghost use lib.ListN.{length, drop};
 ghost use Rattle.grammar.specs.Meaning.{wordIn, lengthIn, recordIs, lengthAllowed, recordResult, headResult};
 
 // The 16-bit number at a place.

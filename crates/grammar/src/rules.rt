@@ -1,4 +1,5 @@
-// Document 01, "File layout": the rules of a file, record by record, into the rule table.
+// Document 01, "File layout": the rules of a file, record by record, into the rule table: for rule r its rank, the place of its body in the file and the
+// number of its body's words, at 3r, 3r + 1 and 3r + 2.
 use crate::bodies::legal;
 use crate::bodies::shaped;
 use crate::file::Record;

@@ -18,7 +18,7 @@ ghost use Rattle.grammar.specs.Meaning.{bodyIn, ranksIn, RanksSmall, wri
 ghost use Rattle.grammar.specs.Measures.{firstGaps, ownBy, beforeBy, SizesSmall, Measurable, RowsBelow, RuleMeasured, MeasuredIs};
 
 // The size that no rule is over.
-pub const LARGEST_SIZE: u64 = 1099511627776;
+const LARGEST_SIZE: u64 = 1099511627776;
 
 // Gap m of rule j.
 pub fn gap(sizes: &[u64], j: usize, m: usize) -> u64

@@ -5,6 +5,7 @@ pub mod OrderMatters
 -- Demand 1: refusals, exactly under their conditions.
 pub mod Conditions
 pub mod Refusals
+pub mod Placed
 pub mod Program
 pub mod Recorded
 -- Demand 2: what accepted calls return, and the words that the work area has to hold.

@@ -19,6 +19,7 @@ use Rattle.laws.specs.Formed.{Tree}
 use Rattle.laws.proofs.Grammar.{tree-plain}
 use Rattle.laws.proofs.Lists.{all-cons}
 use Rattle.grammar.specs.Meaning.{readingOf, queryAnswer}
+use Rattle.grammar.proofs.Answering.{query-refused}
 use Rattle.grammar.specs.Measures.{Denotes}
 use Rattle.queries.specs.Pieces.{stop, stopped, unstopped, upTo, Walkable, Walked}
 use Rattle.queries.specs.Building.{rulesOf, gapsOf, Spelt}
@@ -145,8 +146,9 @@ reading-refused (refused y j) x k e = cc
 pub answer-refused : (file : List ℕ) (p many : ℕ) (m : Result ℕ) (x : Refusal) (k : ℕ) → m ≡ refused x k → m ≡ readingOf (read file) → (a : Answer) → a ≡ queryAnswer m
     → (out : List ℕ) → out ≡ replicate many 65535 → (a ≡ windowAt file p many .answer) × (out ≡ windowAt file p many .window)
 answer-refused file p many m x k e f a q out o =
-    let w = window-refused file p many x k (reading-refused (read file) x k (sym e ∙ f)) in
-    (q ∙ ap queryAnswer e ∙ ap (λ (v : WindowAnswer). v .answer) (sym w), o ∙ ap (λ (v : WindowAnswer). v .window) (sym w))
+    let r = reading-refused (read file) x k (sym e ∙ f) in
+    let w = window-refused file p many x k r in
+    (q ∙ ap queryAnswer e ∙ query-refused file x k r ∙ ap (λ (v : WindowAnswer). v .answer) (sym w), o ∙ ap (λ (v : WindowAnswer). v .window) (sym w))
 
 module _ {file : List ℕ} {n : ℕ} {table sizes : List ℕ} (d : Denotes file n table sizes) (p many : ℕ) where
   -- a place outside the tree

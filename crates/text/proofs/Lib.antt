@@ -1,5 +1,4 @@
 pub mod Putting
 pub mod Decimals
 pub mod ReadingDigits
-pub mod Places
 pub mod Names

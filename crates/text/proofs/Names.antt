@@ -7,7 +7,7 @@ use Rattle.grammar.specs.Meaning.{refusalIs, verdictIs}
 use Rattle.grammar.specs.declared.refusals.Refusal.{Refusal as Coded}
 use Rattle.grammar.specs.declared.refusals.Verdict.{Verdict}
 use Rattle.grammar.specs.declared.refusals.Verdict.the-variants.{Accepted, Refused}
-use Rattle.model.specs.Refusals.{Refusal, SHORT, KIND, LENGTH, HEAD, RANK, SYMBOL, BODY, TRAIL, LARGE, HUGE, EMPTY, POSITION, NODE, LABEL, TREE, NOTHING-LEFT, OUTGROWN, FULL, ROOM, WORK, REQUEST, nameOf, numberOf, placeOf}
+use Rattle.model.specs.Refusals.{Refusal, SHORT, KIND, LENGTH, HEAD, RANK, SYMBOL, BODY, TRAIL, LARGE, HUGE, EMPTY, POSITION, NODE, LABEL, TREE, NOTHING-LEFT, OUTGROWN, FULL, ROOM, WORK, REQUEST, nameOf, numberOf}
 use Rattle.text.specs.Answers.{nameBy, acceptedText, refusalLine, answerLineAs, answerLine}
 
 pub named : (x : Refusal) → nameOf x ≡ nameBy (numberOf x)
@@ -62,6 +62,6 @@ module _ (v : Verdict) (opened rounds length : ℕ) where
   pub accepted-line : v ≡ Accepted → acceptedText ≡ answerLine (verdictIs v opened rounds length)
   accepted-line e = rw e
 
-  pub refused-line : (x : Coded) (k : ℕ) → v ≡ Refused x k → refusalLine (numberOf (refusalIs x)) (placeOf (refusalIs x) k) ≡ answerLine (verdictIs v opened rounds length)
+  pub refused-line : (x : Coded) (k : ℕ) → v ≡ Refused x k → refusalLine (numberOf (refusalIs x)) k ≡ answerLine (verdictIs v opened rounds length)
   refused-line x k e =
-      rw e (ap (λ (b : Bool). answerLineAs b (numberOf (refusalIs x)) (placeOf (refusalIs x) k)) (positive (refusalIs x)))
+      rw e (ap (λ (b : Bool). answerLineAs b (numberOf (refusalIs x)) k) (positive (refusalIs x)))

@@ -3,7 +3,6 @@ use crate::lines::put;
 use crate::numbers::put_decimal;
 use crate::refusals::name;
 use crate::refusals::number;
-use crate::refusals::place;
 use grammar::refusals::Answer;
 use grammar::refusals::Refusal;
 use grammar::refusals::Verdict;
@@ -11,7 +10,7 @@ ghost use Prim.Native.Nat.{_+_, _≤_};
 ghost use mathlib.Core.Path.{_≡_};
 ghost use lib.Dec.{eqb};
 ghost use lib.ListN.{length};
-ghost use Rattle.model.specs.Refusals.{numberOf, nameOf, placeOf};
+ghost use Rattle.model.specs.Refusals.{numberOf, nameOf};
 ghost use Rattle.grammar.specs.Meaning.{refusalIs, answerIs};
 ghost use Rattle.text.specs.Lines.{Put};
 ghost use Rattle.text.specs.Answers.{answerLine, refusalLine};
@@ -41,14 +40,14 @@ pub fn is_accepted(a: Answer) -> bool
 
 fn put_refusal(x: Refusal, record: usize, out: &mut [u8]) -> usize
     requires { ⌜ 80 ≤ length (now out) ⌝ }
-    ensures { λ r. ⌜ Put (refusalLine (numberOf (refusalIs x)) (placeOf (refusalIs x) «record»)) (now (out .entry)) 0 (now (out .exit)) r × (r ≤ 80) ⌝ }
+    ensures { λ r. ⌜ Put (refusalLine (numberOf (refusalIs x)) «record») (now (out .entry)) 0 (now (out .exit)) r × (r ≤ 80) ⌝ }
 {
     let mut end = put(b"refused ", out, 0);
     end = put_decimal(number(x) as u64, out, end);
     end = put(b" ", out, end);
     end = put_name(x, out, end);
     end = put(b" place ", out, end);
-    end = put_decimal(place(x, record) as u64, out, end);
+    end = put_decimal(record as u64, out, end);
     put(b"\n", out, end)
 }
 

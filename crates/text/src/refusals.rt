@@ -1,10 +1,10 @@
-// Document 01, "Refusal numbers": the number, the place and the name of a refusal.
+// Document 01, "Refusal numbers": the number and the name of a refusal.
 use grammar::refusals::Refusal;
 use grammar::refusals::Verdict;
 ghost use mathlib.Core.Path.{_≡_};
 ghost use Prim.Native.Nat.{_≤_};
 ghost use lib.ListN.{length, take};
-ghost use Rattle.model.specs.Refusals.{numberOf, nameOf, placeOf};
+ghost use Rattle.model.specs.Refusals.{numberOf, nameOf};
 ghost use Rattle.grammar.specs.Meaning.{refusalIs, verdictIs};
 
 // The number of the table's first column.
@@ -134,20 +134,6 @@ pub(crate) fn name(x: Refusal) -> Spelled
     }
 }
 
-// "The place is the record number for 1 to 8 and 10, and otherwise 0."
-pub(crate) fn place(x: Refusal, record: usize) -> usize
-    ensures { λ r. ⌜ r ≡ placeOf (refusalIs x) «record» ⌝ }
-{
-    let n = number(x);
-    if n <= 8 {
-        return record;
-    }
-    if n == 10 {
-        return record;
-    }
-    0
-}
-
 // An answer's number: 0 = accepted.
 pub fn verdict_number(v: Verdict) -> usize
     ensures { λ r. ⌜ r ≡ verdictIs v 0 0 0 .number ⌝ }
@@ -158,12 +144,12 @@ pub fn verdict_number(v: Verdict) -> usize
     }
 }
 
-// An answer's place: 0 where it is accepted.
+// An answer's place, which stands beside its refusal; 0 where it is accepted.
 pub fn verdict_place(v: Verdict) -> usize
     ensures { λ r. ⌜ r ≡ verdictIs v 0 0 0 .place ⌝ }
 {
     match v {
         Verdict::Accepted => 0,
-        Verdict::Refused(x, record) => place(x, record),
+        Verdict::Refused(_, record) => record,
     }
 }

@@ -32,7 +32,7 @@ answer-of-requires c κs = search needs
 returns : tie.Need-returns
 returns c =
     let file = now (c .before .before .before .before .before .before .before .args .file) in
-    c .answer-of .ensures ∙ ap queryAnswer (c .before .before .before .read .ensures .reading) ∙ query-checked (read file)
+    c .answer-of .ensures ∙ ap queryAnswer (c .before .before .before .read .ensures .reading) ∙ query-checked file
 
 pub check-spec : {M : Type 1} → statement M
 check-spec =

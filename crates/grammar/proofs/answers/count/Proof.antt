@@ -75,7 +75,7 @@ returns c =
     let file = now (k .before .before .before .before .before .before .before .before .args .file) in
     let d = denoted k in
     count-taken (read file) (d .rules) (answerIs (c .before .before .answer-of .result)) (c .first-gaps .result) (d .is)
-    (c .before .before .answer-of .ensures ∙ ap (λ (x : Reading). queryAnswer (readingIs x)) (sym (k .r .given .1)) ∙ ap queryAnswer (k .before .before .before .before .read .ensures .reading) ∙ query-checked (read file))
+    (c .before .before .answer-of .ensures ∙ ap (λ (x : Reading). queryAnswer (readingIs x)) (sym (k .r .given .1)) ∙ ap queryAnswer (k .before .before .before .before .read .ensures .reading) ∙ query-checked file)
     (c .first-gaps .ensures .0 ∙ nodes-counted d)
 
 -- src/answers.rt:47:1
@@ -84,7 +84,7 @@ returns-2 c =
     let file = now (c .before .before .before .before .before .before .before .before .before .args .file) in
     let r = c .before .before .before .before .before .read in
     count-refused (read file) (readingIs (r .result)) (answerIs (c .answer-of2 .result)) _ _ (ap readingIs (c .before .enum-told .given .1)) (r .ensures .reading)
-    (c .answer-of2 .ensures ∙ ap queryAnswer (r .ensures .reading) ∙ query-checked (read file))
+    (c .answer-of2 .ensures ∙ ap queryAnswer (r .ensures .reading) ∙ query-checked file)
 
 pub count-spec : {M : Type 1} → statement M
 count-spec =

@@ -36,9 +36,6 @@ slice-aggregate-put-3 c = search needs
 put-requires-3 : tie.Need-put-requires-3
 put-requires-3 c κs = search needs
 
-place-requires : tie.Need-place-requires
-place-requires c κs = search needs
-
 put-decimal-requires-2 : tie.Need-put-decimal-requires-2
 put-decimal-requires-2 c κs = search needs
 
@@ -53,12 +50,12 @@ same-length c = search needs
 
 returns : tie.Need-returns
 returns c =
-    let a = c .before .before .before .before .before .before .before .before .before .before .before .before .before .before .before .before .before .before .before .before .before .before .before .before .before .before .before .before .before .before .before .before .before .before .before .args in
-    let first = put-then (c .before .before .before .before .before .before .before .before .before .before .before .before .before .before .before .before .before .before .before .before .before .before .before .before .before .before .before .before .before .before .before .put .ensures) (put-as (ap decimal (c .before .before .before .before .before .before .before .before .before .before .before .before .before .before .before .before .before .before .before .before .before .before .before .before .before .before .before .before .number .ensures)) (c .before .before .before .before .before .before .before .before .before .before .before .before .before .before .before .before .before .before .before .before .before .before .before .before .before .before .put-decimal .ensures .0)) in
-    let name = put-then (put-then first (c .before .before .before .before .before .before .before .before .before .before .before .before .before .before .before .before .before .before .before .before .before .put2 .ensures)) (put-as (named (refusalIs (a .x))) (c .before .before .before .before .before .before .before .before .before .before .before .before .before .before .before .before .before .put-name .ensures .0)) in
-    let place = put-then (put-then name (c .before .before .before .before .before .before .before .before .before .before .before .before .put3 .ensures)) (put-as (ap decimal (c .before .before .before .before .before .before .before .before .before .place .ensures)) (c .before .before .before .before .before .before .before .put-decimal2 .ensures .0)) in (
+    let a = c .before .before .before .before .before .before .before .before .before .before .before .before .before .before .before .before .before .before .before .before .before .before .before .before .before .before .before .before .before .before .before .before .before .before .args in
+    let first = put-then (c .before .before .before .before .before .before .before .before .before .before .before .before .before .before .before .before .before .before .before .before .before .before .before .before .before .before .before .before .before .before .put .ensures) (put-as (ap decimal (c .before .before .before .before .before .before .before .before .before .before .before .before .before .before .before .before .before .before .before .before .before .before .before .before .before .before .before .number .ensures)) (c .before .before .before .before .before .before .before .before .before .before .before .before .before .before .before .before .before .before .before .before .before .before .before .before .before .put-decimal .ensures .0)) in
+    let name = put-then (put-then first (c .before .before .before .before .before .before .before .before .before .before .before .before .before .before .before .before .before .before .before .before .put2 .ensures)) (put-as (named (refusalIs (a .x))) (c .before .before .before .before .before .before .before .before .before .before .before .before .before .before .before .before .put-name .ensures .0)) in
+    let place = put-then (put-then name (c .before .before .before .before .before .before .before .before .before .before .before .put3 .ensures)) (c .before .before .before .before .before .before .before .put-decimal2 .ensures .0) in (
       put-then place (c .before .before .put4 .ensures),
-      omega (arith, c .before .before .before .before .before .before .before .before .before .before .before .before .before .before .before .before .before .before .before .before .before .before .before .before .before .before .before .before .before .before .before .put .ensures .ended, c .before .before .before .before .before .before .before .before .before .before .before .before .before .before .before .before .before .before .before .before .before .before .before .before .before .before .put-decimal .ensures .1, c .before .before .before .before .before .before .before .before .before .before .before .before .before .before .before .before .before .before .before .before .before .put2 .ensures .ended, c .before .before .before .before .before .before .before .before .before .before .before .before .before .before .before .before .before .put-name .ensures .1, c .before .before .before .before .before .before .before .before .before .before .before .before .put3 .ensures .ended, c .before .before .before .before .before .before .before .put-decimal2 .ensures .1, c .before .before .put4 .ensures .ended),
+      omega (arith, c .before .before .before .before .before .before .before .before .before .before .before .before .before .before .before .before .before .before .before .before .before .before .before .before .before .before .before .before .before .before .put .ensures .ended, c .before .before .before .before .before .before .before .before .before .before .before .before .before .before .before .before .before .before .before .before .before .before .before .before .before .put-decimal .ensures .1, c .before .before .before .before .before .before .before .before .before .before .before .before .before .before .before .before .before .before .before .before .put2 .ensures .ended, c .before .before .before .before .before .before .before .before .before .before .before .before .before .before .before .before .put-name .ensures .1, c .before .before .before .before .before .before .before .before .before .before .before .put3 .ensures .ended, c .before .before .before .before .before .before .before .put-decimal2 .ensures .1, c .before .before .put4 .ensures .ended),
     )
 
 pub put-refusal-spec : {M : Type 1} → statement M
@@ -74,7 +71,6 @@ put-refusal-spec =
     put-name-requires
     slice-aggregate-put-3
     put-requires-3
-    place-requires
     put-decimal-requires-2
     slice-aggregate-put-4
     put-requires-4
