@@ -6,10 +6,11 @@ pub mod OrderMatters
 pub mod Conditions
 pub mod Refusals
 pub mod Placed
+pub mod Fitting
 pub mod Program
-pub mod Recorded
 -- Demand 2: what accepted calls return, and the words that the work area has to hold.
 pub mod Returned
+pub mod Recorded
 pub mod Work
 -- Demand 3: several updates, on trees and on files.
 pub mod Apart

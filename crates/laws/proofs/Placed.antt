@@ -4,11 +4,10 @@ use mathlib.Core.Path.{_≡_, refl, subst}
 use mathlib.Core.Bool.{Bool, true, false, cond, _||_}
 use mathlib.Core.List.{List, [], _∷_, _++_}
 use lib.Dec.{leb, eqb}
-use lib.ListN.{length}
 use Rattle.model.specs.Trees.{Rule, expansions, nodes}
 use Rattle.model.specs.Refusals.{Refusal, refused, EMPTY, numberOf, placeOf}
 use Rattle.model.specs.File.{ruleCount, ruleIn, afterRecord, headRefusals, read}
-use Rattle.laws.specs.Conditions.{First, Condition, at, hugeConditions, rulesConditions, readConditions}
+use Rattle.laws.specs.Conditions.{Condition, at, hugeConditions, rulesConditions, readConditions}
 use Rattle.laws.proofs.Refusals.{read-refused-iff}
 
 -- each condition's record number is the place of its refusal

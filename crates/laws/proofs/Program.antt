@@ -2,7 +2,7 @@
 use Prim.Native.Nat.{ℕ, zero, suc, _+_, _-_, _≤_, _<_}
 use native.Mathlib.Omega.{arith}
 use mathlib.Core.Path.{_≡_, refl, sym, ap, ap₂, _∙_, subst}
-use mathlib.Core.Logic.{_⊎_, ⊎-elim}
+use mathlib.Core.Logic.{⊎-elim}
 use mathlib.Core.Bool.{Bool, true, false, cond, not, _&&_, _||_}
 use mathlib.Core.List.{List, [], _∷_, _++_}
 use lib.Dec.{T, leb, ltb, eqb, leb→le, eqb→eq, lit≤}
@@ -137,6 +137,12 @@ pub program-never-empty : (input : List ℕ) → 14 ≤ length (program input)
 program-never-empty input =
     subst (λ (out : List ℕ). 14 ≤ length out) (sym (program-is input))
     (decide-cases (λ x k. answerRecord (refusal x k)) (λ out. 14 ≤ length out) (programConditions (take 20495 input)) _ (λ x k f. omega arith) (λ h. omega arith))
+
+-- "It writes an answer record, kind 3, payload 8 bytes": whatever it reads
+pub program-record : (input : List ℕ) → (kindIn (program input) ≡ 3) × (payloadLength (program input) ≡ 8)
+program-record input =
+    subst (λ (out : List ℕ). (kindIn out ≡ 3) × (payloadLength out ≡ 8)) (sym (program-is input))
+    (decide-cases (λ x k. answerRecord (refusal x k)) (λ out. (kindIn out ≡ 3) × (payloadLength out ≡ 8)) (programConditions (take 20495 input)) _ (λ x k f. (refl, refl)) (λ h. (refl, refl)))
 
 allowed-small : (kind l : ℕ) → T (requestAllowed kind l) → l ≤ 4104
 allowed-small kind l t =

@@ -113,7 +113,7 @@ file-of : (room work opened rounds : ℕ) (file : List ℕ) → fileOf (accepted
 file-of room work opened rounds file = take-append-seam file (replicate (room - length file) 255)
 
 -- an update that meets none of 12 to 15 has its place in the tree
-suits : (tree : List ℕ) (u : Update) → leb (length tree) (u .at) ≡ false → (wantsElement (u .edit) && eqb (getD tree (u .at) 0) 0) ≡ false
+pub suits : (tree : List ℕ) (u : Update) → leb (length tree) (u .at) ≡ false → (wantsElement (u .edit) && eqb (getD tree (u .at) 0) 0) ≡ false
     → not (labelAllowed (u .edit)) ≡ false → not (fragmentAllowed (u .edit)) ≡ false → Suits tree u
 suits tree u position node new-label fragment = (leb-false (length tree) (u .at) position, go (u .edit) node new-label fragment)
   where

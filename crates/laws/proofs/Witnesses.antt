@@ -10,21 +10,23 @@ use lib.ListN.{getD, replicate}
 use Rattle.model.specs.Words.{classOf, call}
 use Rattle.model.specs.Trees.{Rule, join, treeOf, startOf}
 use Rattle.model.specs.Refusals.{taken}
-use Rattle.model.specs.File.{read, write}
+use Rattle.model.specs.File.{read, write, afterRecord, largestFile}
 use Rattle.model.specs.Edits.{rename, insert, delete, Update, allAtOnce, apart}
 use Rattle.model.specs.Opening.{openedAt}
 use Rattle.model.specs.Dropping.{dropped}
 use Rattle.model.specs.Rounds.{choice, repacked}
-use Rattle.model.specs.Answers.{update, remade, packed, pack, fragmentAllowed, treeAllowed, longestTree}
+use Rattle.model.specs.Answers.{update, remade, packed, pack, fragmentAllowed, treeAllowed, longestTree, leastWork}
+use Rattle.model.specs.Program.{program}
+use Rattle.laws.specs.Conditions.{answerIn}
 use Rattle.laws.specs.Formed.{formed}
 use Rattle.laws.specs.Orders.{Suits, Reordered, keep, swap, twice}
 use Rattle.laws.specs.Runs.{Call, asked, AllAccepted, lastFile}
 use Rattle.laws.specs.Work.{Passes, start, round, bodyWords, UpdateWords}
-use Rattle.laws.specs.Returned.{UpdateReturns, PackReturns}
+use Rattle.laws.specs.Returned.{UpdateReturns, PackReturns, fileOf}
 use Rattle.laws.proofs.Written.{Below, write-bytes}
 use Rattle.laws.proofs.Returned.{single}
 use Rattle.laws.proofs.Work.{taken-short, update-words, pack-words}
-use Rattle.laws.proofs.Demands.{demand-2, demand-2-packing, demand-3}
+use Rattle.laws.proofs.Demands.{demand-2, demand-2-packing, demand-2-program, demand-3}
 
 -- "G: rule 0, rank 1, 0002 0003 0000 0000 8001; rule 1, rank 0, 0001 C000 C000 0000 0000"
 abbrev rules : List Rule
@@ -42,6 +44,10 @@ renaming = record { at = 6; edit = rename 4 }
 abbrev inserting : Update
 inserting = record { at = 9; edit = insert (4 ∷ 0 ∷ 0 ∷ []) }
 
+-- the program's input for the renaming: its update record, then G
+abbrev request : List ℕ
+request = 10 ∷ 0 ∷ 0 ∷ 0 ∷ 16 ∷ 0 ∷ 6 ∷ 0 ∷ 0 ∷ 0 ∷ 0 ∷ 0 ∷ 0 ∷ 0 ∷ 4 ∷ 0 ∷ G
+
 -- what is read, of a grammar: demand 3, the laws of files, opening, dropping and rounds
 pub reads-G : read G ≡ taken rules
 unfolding classOf read write
@@ -54,7 +60,7 @@ pub formed-G : T (formed rules)
 unfolding classOf
 formed-G = tt
 
--- demand 2: an accepted update, and an accepted packing
+-- demand 2: an accepted update, an accepted packing, and an accepted input of the program
 pub update-accepted : update 64 32768 G renaming .answer .number ≡ 0
 unfolding classOf read write openedAt dropped repacked remade update
 update-accepted = refl
@@ -62,6 +68,10 @@ update-accepted = refl
 pub pack-accepted : pack 64 32768 (1 ∷ 0 ∷ 0 ∷ []) .answer .number ≡ 0
 unfolding classOf read write repacked packed pack
 pack-accepted = refl
+
+pub program-accepted : answerIn (program request) .number ≡ 0
+unfolding classOf read write openedAt dropped repacked remade update program
+program-accepted = refl
 
 -- demand 3: the three updates are apart, and every call of another order is accepted
 pub all-apart : T (apart (treeOf rules) (deleting ∷ renaming ∷ inserting ∷ []))
@@ -117,6 +127,10 @@ updated-G = demand-2 64 32768 G renaming update-accepted
 
 pub packed-one : PackReturns (1 ∷ 0 ∷ 0 ∷ []) (pack 64 32768 (1 ∷ 0 ∷ 0 ∷ []))
 packed-one = demand-2-packing 64 32768 (1 ∷ 0 ∷ 0 ∷ []) pack-accepted
+
+pub recorded-G : (answerIn (program request) ≡ update largestFile leastWork G renaming .answer) × (afterRecord (program request) ≡ fileOf (update largestFile leastWork G renaming))
+unfolding write
+recorded-G = demand-2-program request program-accepted
 
 pub ordered-G : (last : List Rule) × (read (lastFile (treeOf rules) [] G calls) ≡ taken last) × (treeOf last ≡ 1 ∷ 2 ∷ 4 ∷ 0 ∷ 0 ∷ 4 ∷ 0 ∷ 0 ∷ 0 ∷ [])
 ordered-G =

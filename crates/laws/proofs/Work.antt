@@ -1,8 +1,8 @@
 -- Why 32,768 words of work area are enough: a file's bodies are short, opening makes the start body no longer than all of them, an insert adds 2,047 words at most, and no step after
 -- that makes the bodies longer.
-use Prim.Native.Nat.{ℕ, _+_, _*_, _-_, _≤_, _<_}
-use mathlib.Core.Path.{_≡_, refl, sym, ap, _∙_}
-use mathlib.Core.Bool.{Bool, true, false, _&&_}
+use Prim.Native.Nat.{ℕ, _+_, _*_, _≤_}
+use mathlib.Core.Path.{_≡_, refl, ap}
+use mathlib.Core.Bool.{_&&_}
 use mathlib.Core.List.{List, [], _∷_}
 use mathlib.Core.Option.{some}
 use native.Mathlib.Omega.{arith}
@@ -15,8 +15,7 @@ use Rattle.model.specs.Refusals.{taken}
 use Rattle.model.specs.File.{read, write, largestFile}
 use Rattle.model.specs.Edits.{Edit, rename, insert, delete, Update, added}
 use Rattle.model.specs.Opening.{openedAt}
-use Rattle.model.specs.Dropping.{dropped}
-use Rattle.model.specs.Rounds.{Counted, choice, oneRound}
+use Rattle.model.specs.Rounds.{oneRound}
 use Rattle.model.specs.Answers.{withStart, editedStart, treeAllowed, fragmentAllowed, longestFragment, longestTree}
 use Rattle.laws.specs.Formed.{formed}
 use Rattle.laws.specs.Orders.{Suits}

@@ -1,9 +1,9 @@
 -- When a list of rules is a grammar in document 01's sense, and the notions in which the laws are stated.
-use Prim.Native.Nat.{ℕ, zero, suc, _+_, _-_, _≤_, _<_}
+use Prim.Native.Nat.{ℕ, suc, _+_, _-_, _≤_, _<_}
 use mathlib.Core.Path.{_≡_}
-use mathlib.Core.Bool.{Bool, true, false, _&&_}
+use mathlib.Core.Bool.{Bool, true, _&&_}
 use mathlib.Core.List.{List, [], _∷_, _++_}
-use lib.Dec.{T, leb, eqb}
+use lib.Dec.{leb, eqb}
 use lib.ListN.{length, getD}
 use Rattle.model.specs.Words.{rankOf, isParameter, within}
 use Rattle.model.specs.Trees.{Rule, all, those, isLegal, obeys, parameters, grow, fold, expand, ranksOf, mostRules}

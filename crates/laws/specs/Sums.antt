@@ -1,7 +1,7 @@
 -- Sums along a body: what each word adds to the size of its expansion, and to what stands before a place in it.
-use Prim.Native.Nat.{ℕ, zero, suc, _+_, _-_}
-use mathlib.Core.Bool.{Bool, true, false, cond}
-use mathlib.Core.List.{List, [], _∷_, _++_}
+use Prim.Native.Nat.{ℕ, suc, _+_, _-_}
+use mathlib.Core.Bool.{cond}
+use mathlib.Core.List.{List, [], _∷_}
 use lib.Dec.{ltb}
 use lib.ListN.{take, getD}
 use Rattle.model.specs.Words.{classOf, byClass, rankOf}
