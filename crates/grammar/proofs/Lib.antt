@@ -15,6 +15,7 @@ pub mod ReadWhole
 pub mod ReadLaws
 pub mod TakenRules
 pub mod Answering
+pub mod Unique
 pub mod Promise
 pub mod Denoted
 pub mod WholeRead

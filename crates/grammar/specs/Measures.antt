@@ -91,7 +91,7 @@ pub record ReadIs (file : List ℕ) (r : Reading) (m : Result (List Rule)) (tabl
   pub gaps : sizes′ ≡ sizeTable (length sizes) m
   pub stands : Stand file m
 
--- A file that is taken denotes a grammar of the model: the rules, where their bodies stand, and the two tables on them. The layers above use this alone.
+-- A file that is taken denotes a grammar of the model: the rules, where their bodies stand, and the two tables on them. The layers above build on this, and on nothing that reading does on the way.
 pub record Denotes (file : List ℕ) (n : ℕ) (table sizes : List ℕ) : Type 0 where
   pub rules : List Rule
   pub is : read file ≡ taken rules

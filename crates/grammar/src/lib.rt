@@ -1,5 +1,5 @@
-// The record and body layer: what a file's bytes denote. A file that is taken denotes a grammar of the model (`Denotes` in specs/Measures), and the layers above use
-// that meaning alone, by the laws of proofs/Denoted.
+// The record and body layer: what a file's bytes denote. A file that is taken denotes a grammar of the model (`Denotes` in specs/Measures), and the layers above build
+// on that meaning: what the record says of the file and its two tables, and the laws of proofs/Denoted.
 // Document 01, "Trees and words", "File layout", "Refusal numbers". Read `answers::check` first, then `read::read`.
 //   words      sorting a word
 //   refusals   the closed list of refusals, the verdict and the answer

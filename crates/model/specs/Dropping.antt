@@ -1,9 +1,9 @@
 -- Document 01, "How the updated file is made", step 3: dropping the rules that the start rule doesn't reach.
-use Prim.Native.Nat.{ℕ, zero, suc, _+_}
+use Prim.Native.Nat.{ℕ, suc}
 use mathlib.Core.Bool.{Bool, true, false, cond, _||_}
-use mathlib.Core.List.{List, [], _∷_, _++_, map}
+use mathlib.Core.List.{List, [], _∷_, map}
 use lib.Dec.{eqb}
-use lib.ListN.{length, take}
+use lib.ListN.{take}
 use Rattle.model.specs.Words.{whenCall, recalled}
 use Rattle.model.specs.Trees.{Rule}
 

@@ -1,10 +1,10 @@
 -- Document 01, "File layout": a file's bytes as a grammar or as the first refusal, and a grammar's file.
-use Prim.Native.Nat.{ℕ, zero, suc, _+_, _-_, _*_, _/_, _%_}
-use mathlib.Core.Bool.{Bool, true, false, cond, not, _&&_, _||_}
-use mathlib.Core.List.{List, [], _∷_, _++_, map}
-use mathlib.Core.Option.{Option, none, some}
+use Prim.Native.Nat.{ℕ, zero, suc, _+_, _*_, _/_, _%_}
+use mathlib.Core.Bool.{Bool, true, false, not, _&&_, _||_}
+use mathlib.Core.List.{List, [], _∷_, _++_}
+use mathlib.Core.Option.{none, some}
 use lib.Dec.{leb, ltb, eqb}
-use lib.ListN.{length, take, drop, getD}
+use lib.ListN.{length, take, drop}
 use Rattle.model.specs.Words.{within}
 use Rattle.model.specs.Trees.{Rule, all, isLegal, obeys, ranksOf, expansions, nodes, lowestHuge, mostRules}
 use Rattle.model.specs.Refusals.{Refusal, SHORT, KIND, LENGTH, HEAD, RANK, SYMBOL, BODY, TRAIL, LARGE, HUGE, EMPTY, Result, taken, refused, firstOf}

@@ -1,8 +1,8 @@
 -- Document 01, "The program": standard input's bytes to standard output's bytes.
 use Prim.Native.Nat.{ℕ, _+_}
 use mathlib.Core.Bool.{Bool, true, false, cond, not, _&&_, _||_}
-use mathlib.Core.List.{List, [], _∷_, _++_}
-use lib.Dec.{leb, ltb, eqb}
+use mathlib.Core.List.{List, _++_}
+use lib.Dec.{ltb, eqb}
 use lib.ListN.{length, take, drop}
 use Rattle.model.specs.Words.{within}
 use Rattle.model.specs.Refusals.{REQUEST}

@@ -1,7 +1,7 @@
 -- Document 01, "Trees and words": words as trees, rules, the tree of a grammar, and sizes.
-use Prim.Native.Nat.{ℕ, zero, suc, _+_, _-_, _^_}
-use mathlib.Core.Bool.{Bool, true, false, cond, not, _&&_, _||_}
-use mathlib.Core.List.{List, [], _∷_, _++_, map}
+use Prim.Native.Nat.{ℕ, zero, suc, _-_, _^_}
+use mathlib.Core.Bool.{Bool, true, false, cond, not, _&&_}
+use mathlib.Core.List.{List, [], _∷_, _++_}
 use mathlib.Core.Option.{Option, none, some}
 use lib.Dec.{leb, ltb, eqb}
 use lib.ListN.{length, take, drop, getD}

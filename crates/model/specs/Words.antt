@@ -1,7 +1,7 @@
 -- Document 01, "Trees and words": what a 16-bit word means, and its rank.
 use Prim.Native.Nat.{ℕ, _-_, _+_}
-use mathlib.Core.Bool.{Bool, true, false, cond, not, _&&_}
-use mathlib.Core.List.{List, [], _∷_}
+use mathlib.Core.Bool.{Bool, true, false, cond, _&&_}
+use mathlib.Core.List.{List}
 use lib.Dec.{leb, eqb}
 use lib.ListN.{getD}
 

@@ -10,7 +10,7 @@ use lib.ListN.{length, take, drop, getD, set, length-set}
 use lib.Seq.{getD-set-same, getD-set-other}
 use borrow.Author.Tests.{leb-true, leb-false, eqb-true, eqb-false, lt-leb, le-leb}
 use Rattle.queries.specs.Pieces.{stop, Part, Spelled, codeFor, after, filling, closing, Entry, Entries, wanted, allWanted, Closes, Closable, between, putIn, putTop}
-use Rattle.queries.proofs.Spelling.{Agree, PieceFor, nothing, piece, piece-for, part-nil, part-join, part-agree, part-put, code-none, put-agree, length-put, spelled-agree}
+use Rattle.queries.proofs.Spelling.{Agree, PieceFor, piece-for, part-nil, part-join, part-agree, part-put, code-none, put-agree, length-put, spelled-agree}
 
 pub after-ext : (f f′ : List (List ℕ) → List ℕ) → ((ts : List (List ℕ)) → f′ ts ≡ f ts) → (ts : List (List ℕ)) → after f′ ts ≡ after f ts
 after-ext f f′ e [] = refl

@@ -10,3 +10,4 @@ pub mod SpellTurns
 pub mod SpellRule
 pub mod SpellFile
 pub mod Windows
+pub mod Unique

@@ -11,7 +11,7 @@ use lib.Seq.{getD-set-same, getD-set-other}
 use borrow.Author.Tests.{ltb-true, ltb-false, eqb-true, eqb-false, lt-ltb}
 use Rattle.model.specs.Words.{Class, empty, label, parameter, call, illegal, classOf, isParameter}
 use Rattle.model.specs.Trees.{all, join, isLegal}
-use Rattle.queries.specs.Pieces.{stop, unstopped, upTo, past, pastAll, meant, spelled, Part, Slice, Spelled, after, filling, closing, Entries, Closes, between, over, own, firstGap, ownPieces, ownTop, ownGap, ownStarts}
+use Rattle.queries.specs.Pieces.{stop, unstopped, upTo, past, pastAll, meant, Part, Slice, Spelled, after, filling, closing, Entries, Closes, between, over, own, firstGap, ownPieces, ownTop, ownGap, ownStarts}
 use Rattle.queries.proofs.Stops.{past-pastAll, pastAll-end, upTo-all, upTo-stop, past-stop, tree-word}
 use Rattle.queries.proofs.Spelling.{Agree, part-nil, part-one, part-join, part-agree, slice-agree, part-plain}
 use Rattle.queries.proofs.Closing.{Now, closing-none, closing-agree, between-filling}

@@ -6,7 +6,7 @@ use mathlib.Core.Path.{_≡_, refl, sym, ap, ap₂, subst, _∙_}
 use mathlib.Core.Bool.{Bool, true, false}
 use mathlib.Core.List.{List, [], _∷_, _++_, append-nil, append-assoc, head-eq-of-cons-eq, tail-eq-of-cons-eq}
 use lib.Dec.{T, ltb}
-use lib.ListN.{length, take, drop, getD, length-drop}
+use lib.ListN.{length, drop, getD, length-drop}
 use lib.Seq.{drop-cons, drop-append-add, drop-nil}
 use borrow.Author.Tests.{ne-eqb, lt-ltb, le-ltb}
 use Rattle.laws.specs.Sums.{sumOf}
@@ -196,10 +196,7 @@ pile-cost-agree P S n Fr Fr′ zero a = refl
 pile-cost-agree P S n Fr Fr′ (suc d) a =
     ap₂ (λ i s. sliceCost P S (n - 1 - d) i + s) (a d (omega arith)) (pile-cost-agree P S n Fr Fr′ d (λ j h. a j (omega arith)))
 
--- the pieces from a place on: none at a stop, and else the piece there first
-codes-stop : (P : List ℕ) (i : ℕ) → i < length P → getD P i 0 ≡ stop → upTo (drop i P) ≡ []
-codes-stop P i h e = ap upTo (drop-cons P i 0 h ∙ ap (λ (c : ℕ). c ∷ drop (suc i) P) e)
-
+-- the pieces from a place on, where there is no stop: the piece there first
 codes-on : (P : List ℕ) (i : ℕ) → i < length P → (getD P i 0 ≡ stop → ⊥) → upTo (drop i P) ≡ getD P i 0 ∷ upTo (drop (suc i) P)
 codes-on P i h u =
     let t : T (unstopped (getD P i 0)) = rw (ne-eqb (getD P i 0) stop u) tt in

@@ -1,5 +1,5 @@
 -- The expansion of a body, with stops for parameters, is the words' own and their gaps with the trees between them.
-use Prim.Native.Nat.{ℕ, zero, suc, _+_, _*_, _-_, _≤_, _<_}
+use Prim.Native.Nat.{ℕ, zero, suc, _+_, _*_, _≤_, _<_}
 use native.Mathlib.Omega.{arith}
 use mathlib.Core.Path.{_≡_, refl, sym, ap, ap₂, _∙_}
 use mathlib.Core.Bool.{false}
@@ -7,13 +7,13 @@ use mathlib.Core.List.{List, [], _∷_, _++_, map, append-nil}
 use lib.Dec.{T}
 use lib.ListN.{length, take, drop, getD, length-take, length-map, List·getD-map}
 use Rattle.model.specs.Words.{Class, empty, label, parameter, call, illegal, classOf, rankOf, isParameter}
-use Rattle.model.specs.Trees.{all, those, join, fold, fill, grow, parameters, isLegal, expand}
+use Rattle.model.specs.Trees.{all, those, join, fold, fill, grow, isLegal, expand}
 use Rattle.laws.specs.Formed.{Env, stackOf}
 use Rattle.laws.proofs.Lists.{all-cons, map-take, map-drop}
 use Rattle.laws.proofs.Grown.{grownWord}
 use Rattle.laws.proofs.Fills.{those-in, those-out, in-order, length-parametersFrom}
 use Rattle.laws.proofs.Expansion.{weave, fill-weave}
-use Rattle.queries.specs.Pieces.{stopped, unstopped, upTo, past, pastAll, gapOf, own, between, over}
+use Rattle.queries.specs.Pieces.{stopped, unstopped, upTo, past, pastAll, gapOf, between, over}
 use Rattle.queries.proofs.Stops.{Kind, param, word, kind, upTo-on, past-on, past-pastAll, small-unstopped, gap-at}
 
 map-append : (f : ℕ → ℕ) (xs ys : List ℕ) → map f (xs ++ ys) ≡ map f xs ++ map f ys

@@ -52,7 +52,8 @@ pub struct Place {
     pub depth: usize,
 }
 
-// A gap of the lowest open word is due: puts it, and goes on upwards where it was the word's last.
+// A gap of the lowest open word is due: puts it, and goes on upwards where it was the word's last. An open word is one number: 2048 times its gaps that are still
+// due, and the next of them, which is below 2048.
 fn close(
     sizes: &[u64],
     starts: &[u16],

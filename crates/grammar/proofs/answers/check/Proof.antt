@@ -12,23 +12,18 @@ use Rattle.grammar.proofs.answers.check.Lts as lts
 use Rattle.grammar.proofs.answers.answer_of.Reads as answer-of-reads
 use Rattle.grammar.proofs.read.read.Reads as read-reads
 
--- src/answers.rt:17:26
 slice-aggregate-read : tie.Need-slice-aggregate-read
 slice-aggregate-read c = search needs
 
--- src/answers.rt:17:38
 slice-aggregate-read-2 : tie.Need-slice-aggregate-read-2
 slice-aggregate-read-2 c = search needs
 
--- src/answers.rt:17:15
 read-requires : tie.Need-read-requires
 read-requires c κs = search needs
 
--- src/answers.rt:17:5
 answer-of-requires : tie.Need-answer-of-requires
 answer-of-requires c κs = search needs
 
--- src/answers.rt:12:1
 returns : tie.Need-returns
 returns c =
     let file = now (c .before .before .before .before .before .before .before .args .file) in

@@ -18,19 +18,15 @@ use Rattle.grammar.proofs.answers.answer_of.Reads as answer-of-reads
 use Rattle.grammar.proofs.read.read.Reads as read-reads
 use Rattle.grammar.proofs.sizes.first_gaps.Reads as first-gaps-reads
 
--- src/answers.rt:52:24
 slice-aggregate-read : tie.Need-slice-aggregate-read
 slice-aggregate-read c = search needs
 
--- src/answers.rt:52:36
 slice-aggregate-read-2 : tie.Need-slice-aggregate-read-2
 slice-aggregate-read-2 c = search needs
 
--- src/answers.rt:52:9
 read-requires : tie.Need-read-requires
 read-requires c κs = search needs
 
--- src/answers.rt:54:24
 enum-known-r : tie.Need-enum-known-r
 enum-known-r c = search needs
 
@@ -42,33 +38,26 @@ denoted c =
     let r = c .before .before .before .before .read in
     denotes (now (c .before .before .before .before .before .before .before .before .args .file)) (c .r .given .0 .0) (r .result) _ (r .last .1 .0) _ (r .last .1 .1 .0) (c .r .given .1) (r .ensures) (omega arith) (omega arith)
 
--- src/answers.rt:55:21
 answer-of-requires : tie.Need-answer-of-requires
 answer-of-requires c κs = search needs
 
--- src/answers.rt:56:31
 slice-aggregate-first-gaps : tie.Need-slice-aggregate-first-gaps
 slice-aggregate-first-gaps c = search needs
 
--- src/answers.rt:56:39
 sub-first-gaps : tie.Need-sub-first-gaps
 sub-first-gaps c = omega (arith, denoted (c .before .before .before) .some)
 
--- src/answers.rt:56:20
 first-gaps-requires : tie.Need-first-gaps-requires
 first-gaps-requires c κs =
     let d = denoted (c .before .before .before) in
     (omega (arith, d .few, d .some, d .longer), omega arith, d .small)
 
--- src/answers.rt:59:21
 enum-told : tie.Need-enum-told
 enum-told c = search needs
 
--- src/answers.rt:59:21
 answer-of-requires-2 : tie.Need-answer-of-requires-2
 answer-of-requires-2 c κs = search needs
 
--- src/answers.rt:47:1
 returns : tie.Need-returns
 returns c =
     let k = c .before .before .before .before in
@@ -78,7 +67,6 @@ returns c =
     (c .before .before .answer-of .ensures ∙ ap (λ (x : Reading). queryAnswer (readingIs x)) (sym (k .r .given .1)) ∙ ap queryAnswer (k .before .before .before .before .read .ensures .reading) ∙ query-checked file)
     (c .first-gaps .ensures .0 ∙ nodes-counted d)
 
--- src/answers.rt:47:1
 returns-2 : tie.Need-returns-2
 returns-2 c =
     let file = now (c .before .before .before .before .before .before .before .before .before .args .file) in

@@ -26,29 +26,23 @@ Inv-loop file at words k next₀ i₀ next i =
 abbrev μ-loop : tie.MeasureT-loop
 μ-loop file at words k next₀ i₀ next i = words - i
 
--- src/bodies.rt:133:5
 loop-holds : tie.Need-loop-holds Inv-loop μ-loop
 loop-holds c =
     let a = c .before .args in
     (omega arith, omega arith, order-start (a .k) (bodyIn (now (a .file)) (a .at) (a .words)))
 
--- src/bodies.rt:134:46
 mul-word-at : tie.Need-mul-word-at Inv-loop μ-loop
 mul-word-at c = omega arith
 
--- src/bodies.rt:134:41
 add-word-at : tie.Need-add-word-at Inv-loop μ-loop
 add-word-at c = omega arith
 
--- src/bodies.rt:134:27
 word-at-requires : tie.Need-word-at-requires Inv-loop μ-loop
 word-at-requires c κs = omega arith
 
--- src/bodies.rt:134:13
 parameter-requires : tie.Need-parameter-requires Inv-loop μ-loop
 parameter-requires c κs = search needs
 
--- src/bodies.rt:137:17
 returns : tie.Need-returns Inv-loop μ-loop
 returns c =
     let s = c .before .before .before .before .before .before .before in
@@ -61,7 +55,6 @@ returns c =
     (sym (c .before .before .parameter .ensures ∙ ap (whenParameter 0 (λ i. i)) (c .before .before .before .word-at .ensures)))
     (c .before .if1 .taken) (inl (c .if2 .taken)))
 
--- src/bodies.rt:140:17
 returns-2 : tie.Need-returns-2 Inv-loop μ-loop
 returns-2 c =
     let s = c .before .before .before .before .before .before .before .before in
@@ -74,19 +67,15 @@ returns-2 c =
     (sym (c .before .before .before .parameter .ensures ∙ ap (whenParameter 0 (λ i. i)) (c .before .before .before .before .word-at .ensures)))
     (c .before .before .if1 .taken) (inr (omega arith, omega arith)))
 
--- src/bodies.rt:142:13
 add-next : tie.Need-add-next Inv-loop μ-loop
 add-next c = omega arith
 
--- src/bodies.rt:144:9
 add-i : tie.Need-add-i Inv-loop μ-loop
 add-i c = omega arith
 
--- src/bodies.rt:133:5
 loop-less : tie.Need-loop-less Inv-loop μ-loop
 loop-less c = omega arith
 
--- src/bodies.rt:133:5
 loop-again : tie.Need-loop-again Inv-loop μ-loop
 loop-again c =
     let s = c .before .before .before .before .before .before in
@@ -113,7 +102,6 @@ loop-again c =
     ))
     (c .if1 .came)
 
--- src/bodies.rt:127:1
 returns-3 : tie.Need-returns-3 Inv-loop μ-loop
 returns-3 c =
     let s = c .before .before .before in

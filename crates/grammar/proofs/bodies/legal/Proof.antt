@@ -1,3 +1,4 @@
+-- `grammar::bodies::legal` meets its contract: the words passed so far are legal.
 use borrow.Author.Needs.{needs}
 use Prim.Native.Nat.{ℕ, _≤_, _-_}
 use mathlib.Core.Path.{_≡_, refl, sym, ap, _∙_}
@@ -22,27 +23,21 @@ Inv-loop file at words r i₀ i = (i ≤ words) × (all (isLegal r) (bodyIn file
 abbrev μ-loop : tie.MeasureT-loop
 μ-loop file at words r i₀ i = words - i
 
--- src/bodies.rt:37:5
 loop-holds : tie.Need-loop-holds Inv-loop μ-loop
 loop-holds c = (omega arith, refl)
 
--- src/bodies.rt:38:43
 mul-word-at : tie.Need-mul-word-at Inv-loop μ-loop
 mul-word-at c = omega arith
 
--- src/bodies.rt:38:38
 add-word-at : tie.Need-add-word-at Inv-loop μ-loop
 add-word-at c = omega arith
 
--- src/bodies.rt:38:24
 word-at-requires : tie.Need-word-at-requires Inv-loop μ-loop
 word-at-requires c κs = omega arith
 
--- src/bodies.rt:38:13
 legal-word-requires : tie.Need-legal-word-requires Inv-loop μ-loop
 legal-word-requires c κs = search needs
 
--- src/bodies.rt:39:13
 returns : tie.Need-returns Inv-loop μ-loop
 returns c =
     let a = c .before .before .before .before .before .before .args in
@@ -51,15 +46,12 @@ returns c =
     ∙ all-fails (isLegal (a .r)) (body-rest (now (a .file)) (a .at) (a .words) (c .before .before .before .before .before .before .pre) (c .before .before .before .before .loop .i) (omega arith))
     (ap (isLegal (a .r)) (sym (c .before .before .word-at .ensures)) ∙ sym (c .before .legal-word .ensures) ∙ not-true _ (c .if1 .taken)))
 
--- src/bodies.rt:41:9
 add-i : tie.Need-add-i Inv-loop μ-loop
 add-i c = omega arith
 
--- src/bodies.rt:37:5
 loop-less : tie.Need-loop-less Inv-loop μ-loop
 loop-less c = omega arith
 
--- src/bodies.rt:37:5
 loop-again : tie.Need-loop-again Inv-loop μ-loop
 loop-again c =
     let a = c .before .before .before .before .before .before .args in (
@@ -69,7 +61,6 @@ loop-again c =
           (ap (isLegal (a .r)) (sym (c .before .before .word-at .ensures)) ∙ sym (c .before .legal-word .ensures) ∙ not-false _ (c .if1 .left)),
     )
 
--- src/bodies.rt:32:1
 returns-2 : tie.Need-returns-2 Inv-loop μ-loop
 returns-2 c =
     let a = c .before .before .before .args in

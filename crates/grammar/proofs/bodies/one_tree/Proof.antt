@@ -27,11 +27,9 @@ Inv-loop file at words table r c₀ c =
 abbrev μ-loop : tie.MeasureT-loop
 μ-loop file at words table r c₀ c = words - c .at
 
--- src/bodies.rt:96:9
 new-requires : tie.Need-new-requires Inv-loop μ-loop
 new-requires c κs = search needs
 
--- src/bodies.rt:97:5
 loop-holds : tie.Need-loop-holds Inv-loop μ-loop
 loop-holds c =
     let a = c .before .before .before .args in (
@@ -41,7 +39,6 @@ loop-holds c =
           (c .new .ensures .0) (c .new .ensures .1),
     )
 
--- src/bodies.rt:101:13
 returns : tie.Need-returns Inv-loop μ-loop
 returns c =
     let s = c .before .before .before .before .before .before .before in
@@ -53,33 +50,26 @@ returns c =
     ∙ ap (λ (n : ℕ). dueOk (ranksIn (a .r) (now (a .table))) n (drop i (bodyIn (now (a .file)) (a .at) (a .words)))) (c .if2 .taken)
     ∙ due-stop (ranksIn (a .r) (now (a .table))) (bodyIn (now (a .file)) (a .at) (a .words)) i _ _ (body-rest (now (a .file)) (a .at) (a .words) (s .pre .0) i l))
 
--- src/bodies.rt:103:54
 mul-word-at : tie.Need-mul-word-at Inv-loop μ-loop
 mul-word-at c = omega arith
 
--- src/bodies.rt:103:49
 add-word-at : tie.Need-add-word-at Inv-loop μ-loop
 add-word-at c = omega arith
 
--- src/bodies.rt:103:35
 word-at-requires : tie.Need-word-at-requires Inv-loop μ-loop
 word-at-requires c κs = omega arith
 
--- src/bodies.rt:103:13
 rank-of-requires : tie.Need-rank-of-requires Inv-loop μ-loop
 rank-of-requires c κs = omega arith
 
--- src/bodies.rt:104:9
 step-requires : tie.Need-step-requires Inv-loop μ-loop
 step-requires c κs =
     let s = c .before .before .before .before .before .before .before .before .before in
     omega (arith, c .rank-of .ensures, rank-small (s .args .r) (now (s .args .table)) (s .pre .3) (c .before .word-at .result))
 
--- src/bodies.rt:97:5
 loop-less : tie.Need-loop-less Inv-loop μ-loop
 loop-less c = omega arith
 
--- src/bodies.rt:97:5
 loop-again : tie.Need-loop-again Inv-loop μ-loop
 loop-again c =
     let s = c .before .before .before .before .before .before .before .before .before .before in
@@ -96,7 +86,6 @@ loop-again c =
           (c .before .rank-of .ensures ∙ ap (rankOf (ranksIn (a .r) (now (a .table)))) (c .before .before .word-at .ensures))),
     )
 
--- src/bodies.rt:92:1
 returns-2 : tie.Need-returns-2 Inv-loop μ-loop
 returns-2 c =
     let s = c .before .before .before .before .before .before in

@@ -17,11 +17,9 @@ use Rattle.grammar.proofs.bodies.in_order.Reads as in-order-reads
 use Rattle.grammar.proofs.bodies.one_tree.Reads as one-tree-reads
 use Rattle.grammar.proofs.file.word_at.Reads as word-at-reads
 
--- src/bodies.rt:174:9
 one-tree-requires : tie.Need-one-tree-requires
 one-tree-requires c κs = search needs
 
--- src/bodies.rt:175:9
 returns : tie.Need-returns
 returns c =
     let s = c .before .before .before .before in
@@ -30,11 +28,9 @@ returns c =
     let ws = bodyIn (now (a .file)) (a .at) (a .words) in
     sym (not-a-tree ranks (a .k) ws (sym (c .before .one-tree .ensures) ∙ not-true _ (c .if1 .taken)))
 
--- src/bodies.rt:177:9
 in-order-requires : tie.Need-in-order-requires
 in-order-requires c κs = search needs
 
--- src/bodies.rt:178:9
 returns-2 : tie.Need-returns-2
 returns-2 c =
     let s = c .before .before .before .before .before .before in
@@ -45,7 +41,6 @@ returns-2 c =
     (not-in-order ranks (a .k) ws (sym (c .before .before .before .one-tree .ensures) ∙ not-false _ (c .before .before .if1 .left))
     (sym (c .before .in-order .ensures) ∙ not-true _ (c .if2 .taken)))
 
--- src/bodies.rt:181:9
 returns-3 : tie.Need-returns-3
 returns-3 c =
     let s = c .before .before .before .before .before .before .before in
@@ -57,11 +52,9 @@ returns-3 c =
     (sym (c .before .before .in-order .ensures) ∙ not-false _ (c .before .if2 .left))
     (λ e. c .if3 .taken (sym (length-body (now (a .file)) (a .at) (a .words) (s .pre .0)) ∙ e)))
 
--- src/bodies.rt:183:5
 word-at-requires : tie.Need-word-at-requires
 word-at-requires c κs = search needs
 
--- src/bodies.rt:170:1
 returns-4 : tie.Need-returns-4
 returns-4 c =
     let s = c .before .before .before .before .before .before .before .before in

@@ -28,11 +28,9 @@ Inv-loop file at words i table r c₀ c =
 abbrev μ-loop : tie.MeasureT-loop
 μ-loop file at words i table r c₀ c = words - c .at
 
--- src/bodies.rt:117:9
 at-place-requires : tie.Need-at-place-requires Inv-loop μ-loop
 at-place-requires c κs = search needs
 
--- src/bodies.rt:118:5
 loop-holds : tie.Need-loop-holds Inv-loop μ-loop
 loop-holds c =
     let s = c .before .before .before in
@@ -57,33 +55,26 @@ before-word c =
     let inside : l .c .at < length body = due-inside ranks body (s .pre .5) (a .i + length (subtree ranks (a .i) body)) (l .c .at) (l .c .due) (l .inv .2) (omega arith) in
     omega (arith, length-body (now (a .file)) (a .at) (a .words) (s .pre .0))
 
--- src/bodies.rt:120:54
 mul-word-at : tie.Need-mul-word-at Inv-loop μ-loop
 mul-word-at c = omega arith
 
--- src/bodies.rt:120:49
 add-word-at : tie.Need-add-word-at Inv-loop μ-loop
 add-word-at c = omega arith
 
--- src/bodies.rt:120:35
 word-at-requires : tie.Need-word-at-requires Inv-loop μ-loop
 word-at-requires c κs = omega (arith, before-word c)
 
--- src/bodies.rt:120:13
 rank-of-requires : tie.Need-rank-of-requires Inv-loop μ-loop
 rank-of-requires c κs = omega arith
 
--- src/bodies.rt:121:9
 step-requires : tie.Need-step-requires Inv-loop μ-loop
 step-requires c κs =
     let s = c .before .before .before .before .before .before .before .before in
     omega (arith, c .rank-of .ensures, rank-small (s .args .r) (now (s .args .table)) (s .pre .3) (c .before .word-at .result))
 
--- src/bodies.rt:118:5
 loop-less : tie.Need-loop-less Inv-loop μ-loop
 loop-less c = omega (arith, before-word (c .before .before .before))
 
--- src/bodies.rt:118:5
 loop-again : tie.Need-loop-again Inv-loop μ-loop
 loop-again c =
     let s = c .before .before .before .before .before .before .before .before .before in
@@ -101,7 +92,6 @@ loop-again c =
           (omega (arith, c .step .ensures .1, c .before .rank-of .ensures)),
     )
 
--- src/bodies.rt:111:1
 returns : tie.Need-returns Inv-loop μ-loop
 returns c =
     let s = c .before .before .before .before .before .before in

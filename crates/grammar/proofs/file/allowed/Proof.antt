@@ -5,15 +5,12 @@ use Rattle.grammar.proofs.file.allowed.Tie as tie
 use Rattle.grammar.proofs.file.allowed.Reads as reads
 use Rattle.grammar.proofs.file.allowed.Lts as lts
 
--- src/file.rt:38:9
 returns : tie.Need-returns
 returns c = simp (eq-eqb _ _ (c .if1 .taken))
 
--- src/file.rt:41:9
 returns-2 : tie.Need-returns-2
 returns-2 c = simp (ne-eqb _ _ (c .before .if1 .left), eq-eqb _ _ (c .if2 .taken))
 
--- src/file.rt:34:1
 returns-3 : tie.Need-returns-3
 returns-3 c = simp (ne-eqb _ _ (c .before .if1 .left), ne-eqb _ _ (c .if2 .left))
 

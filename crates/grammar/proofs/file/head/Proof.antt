@@ -13,19 +13,15 @@ use Rattle.grammar.proofs.file.head.Lts as lts
 use Rattle.grammar.proofs.file.record_at.Reads as record-at-reads
 use Rattle.grammar.proofs.file.word_at.Reads as word-at-reads
 
--- src/file.rt:77:11
 record-at-requires : tie.Need-record-at-requires
 record-at-requires c κs = search needs
 
--- src/file.rt:78:25
 enum-known-x : tie.Need-enum-known-x
 enum-known-x c = search needs
 
--- src/file.rt:80:17
 enum-told : tie.Need-enum-told
 enum-told c = search needs
 
--- src/file.rt:80:17
 word-at-requires : tie.Need-word-at-requires
 word-at-requires c κs =
     omega (
@@ -34,7 +30,6 @@ word-at-requires c κs =
           (sym (c .before .before .record-at .ensures) ∙ ap recordIs (c .enum-told .given .1)),
     )
 
--- src/file.rt:81:21
 word-at-requires-2 : tie.Need-word-at-requires-2
 word-at-requires-2 c κs =
     omega (
@@ -43,11 +38,9 @@ word-at-requires-2 c κs =
           (sym (c .before .before .before .record-at .ensures) ∙ ap recordIs (c .before .enum-told .given .1)),
     )
 
--- src/file.rt:81:21
 cast-n : tie.Need-cast-n
 cast-n c = search needs
 
--- src/file.rt:83:17
 returns : tie.Need-returns
 returns c =
     let file = now (c .before .before .before .before .before .before .before .args .file) in
@@ -55,7 +48,6 @@ returns c =
     let e = sym (c .before .before .before .before .before .record-at .ensures) ∙ ap recordIs (c .before .before .before .enum-told .given .1) in
     sym (head-edition file l e (λ q. c .if1 .taken (c .before .before .word-at .ensures ∙ q)))
 
--- src/file.rt:86:17
 returns-2 : tie.Need-returns-2
 returns-2 c =
     let file = now (c .before .before .before .before .before .before .before .before .args .file) in
@@ -63,7 +55,6 @@ returns-2 c =
     let e = sym (c .before .before .before .before .before .before .record-at .ensures) ∙ ap recordIs (c .before .before .before .before .enum-told .given .1) in
     sym (head-none file l e (sym (c .before .before .before .word-at .ensures) ∙ c .before .if1 .left) (omega (arith, c .before .before .word-at2 .ensures)))
 
--- src/file.rt:89:17
 returns-3 : tie.Need-returns-3
 returns-3 c =
     let file = now (c .before .before .before .before .before .before .before .before .before .args .file) in
@@ -73,12 +64,10 @@ returns-3 c =
     (head-many file l e (sym (c .before .before .before .before .word-at .ensures) ∙ c .before .before .if1 .left)
     (omega (arith, c .before .before .before .word-at2 .ensures)) (omega (arith, c .before .before .before .word-at2 .ensures)))
 
--- src/file.rt:74:1
 returns-4 : tie.Need-returns-4
 returns-4 c =
     sym (head-refused (now (c .before .before .before .before .before .args .file)) (refusalIs (c .before .x .given .0 .0)) (sym (c .before .before .before .record-at .ensures) ∙ ap recordIs (c .before .x .given .1)))
 
--- src/file.rt:74:1
 returns-5 : tie.Need-returns-5
 returns-5 c =
     let file = now (c .before .before .before .before .before .before .before .before .before .args .file) in

@@ -15,41 +15,33 @@ use Rattle.grammar.proofs.file.allowed.Reads as allowed-reads
 use Rattle.grammar.proofs.file.length_at.Reads as length-at-reads
 use Rattle.grammar.proofs.file.word_at.Reads as word-at-reads
 
--- src/file.rt:56:16
 sub-left : tie.Need-sub-left
 sub-left c = search needs
 
--- src/file.rt:58:9
 returns : tie.Need-returns
 returns c =
     let s = c .before .before in
     let a = s .args in
     sym (record-short (now (a .file)) (a .at) (a .kind) (s .pre) (omega arith))
 
--- src/file.rt:60:22
 add-word-at : tie.Need-add-word-at
 add-word-at c = search needs
 
--- src/file.rt:60:8
 word-at-requires : tie.Need-word-at-requires
 word-at-requires c κs = search needs
 
--- src/file.rt:61:9
 returns-2 : tie.Need-returns-2
 returns-2 c =
     let s = c .before .before .before .before in
     let a = s .args in
     sym (record-kind (now (a .file)) (a .at) (a .kind) (s .pre) (omega arith) (λ e. c .if2 .taken (c .before .word-at .ensures ∙ e)))
 
--- src/file.rt:63:9
 length-at-requires : tie.Need-length-at-requires
 length-at-requires c κs = search needs
 
--- src/file.rt:64:9
 allowed-requires : tie.Need-allowed-requires
 allowed-requires c κs = search needs
 
--- src/file.rt:65:9
 returns-3 : tie.Need-returns-3
 returns-3 c =
     let s = c .before .before .before .before .before .before .before in
@@ -58,7 +50,6 @@ returns-3 c =
     (record-length (now (a .file)) (a .at) (a .kind) (s .pre) (omega arith) (sym (c .before .before .before .before .word-at .ensures) ∙ c .before .before .before .if2 .left)
     (ap (lengthAllowed (a .kind)) (sym (c .before .before .length-at .ensures)) ∙ sym (c .before .allowed .ensures) ∙ not-true _ (c .if3 .taken)))
 
--- src/file.rt:68:9
 returns-4 : tie.Need-returns-4
 returns-4 c =
     let s = c .before .before .before .before .before .before .before .before in
@@ -68,7 +59,6 @@ returns-4 c =
     (ap (lengthAllowed (a .kind)) (sym (c .before .before .before .length-at .ensures)) ∙ sym (c .before .before .allowed .ensures) ∙ not-false _ (c .before .if3 .left))
     (omega (arith, c .before .before .before .length-at .ensures)))
 
--- src/file.rt:52:1
 returns-5 : tie.Need-returns-5
 returns-5 c =
     let s = c .before .before .before .before .before .before .before .before in

@@ -16,35 +16,27 @@ Inv-loop sizes₀ i₀ sizes i = Cleared sizes₀ i sizes
 abbrev μ-loop : tie.MeasureT-loop
 μ-loop sizes₀ i₀ sizes i = length sizes₀ - i
 
--- src/read.rt:95:5
 loop-holds : tie.Need-loop-holds Inv-loop μ-loop
 loop-holds c = (omega arith, refl, refl)
 
--- src/read.rt:96:9
 mul-sizes : tie.Need-mul-sizes Inv-loop μ-loop
 mul-sizes c = omega arith
 
--- src/read.rt:96:9
 slice-write-sizes : tie.Need-slice-write-sizes Inv-loop μ-loop
 slice-write-sizes c = omega arith
 
--- src/read.rt:97:9
 add-i : tie.Need-add-i Inv-loop μ-loop
 add-i c = omega arith
 
--- src/read.rt:95:5
 loop-less : tie.Need-loop-less Inv-loop μ-loop
 loop-less c = omega arith
 
--- src/read.rt:95:5
 loop-again : tie.Need-loop-again Inv-loop μ-loop
 loop-again c = let l = c .before .loop in cleared-next (now (c .before .before .args .sizes)) (l .i) (l .sizes) (l .inv) (omega arith)
 
--- src/read.rt:91:1
 same-length : tie.Need-same-length Inv-loop μ-loop
 same-length c = c .before .loop .inv .2
 
--- src/read.rt:91:1
 returns : tie.Need-returns Inv-loop μ-loop
 returns c = let l = c .before .loop in cleared-all (now (c .before .before .args .sizes)) (l .i) (l .sizes) (l .inv) (omega arith)
 

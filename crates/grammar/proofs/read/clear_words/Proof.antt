@@ -16,35 +16,27 @@ Inv-loop table₀ i₀ table i = Cleared table₀ i table
 abbrev μ-loop : tie.MeasureT-loop
 μ-loop table₀ i₀ table i = length table₀ - i
 
--- src/read.rt:85:5
 loop-holds : tie.Need-loop-holds Inv-loop μ-loop
 loop-holds c = (omega arith, refl, refl)
 
--- src/read.rt:86:9
 mul-table : tie.Need-mul-table Inv-loop μ-loop
 mul-table c = omega arith
 
--- src/read.rt:86:9
 slice-write-table : tie.Need-slice-write-table Inv-loop μ-loop
 slice-write-table c = omega arith
 
--- src/read.rt:87:9
 add-i : tie.Need-add-i Inv-loop μ-loop
 add-i c = omega arith
 
--- src/read.rt:85:5
 loop-less : tie.Need-loop-less Inv-loop μ-loop
 loop-less c = omega arith
 
--- src/read.rt:85:5
 loop-again : tie.Need-loop-again Inv-loop μ-loop
 loop-again c = let l = c .before .loop in cleared-next (now (c .before .before .args .table)) (l .i) (l .table) (l .inv) (omega arith)
 
--- src/read.rt:81:1
 same-length : tie.Need-same-length Inv-loop μ-loop
 same-length c = c .before .loop .inv .2
 
--- src/read.rt:81:1
 returns : tie.Need-returns Inv-loop μ-loop
 returns c = let l = c .before .loop in cleared-all (now (c .before .before .args .table)) (l .i) (l .table) (l .inv) (omega arith)
 

@@ -19,42 +19,33 @@ use Rattle.grammar.proofs.read.clear_sizes.Reads as clear-sizes-reads
 use Rattle.grammar.proofs.read.clear_words.Reads as clear-words-reads
 use Rattle.grammar.proofs.read.records.Reads as records-reads
 
--- src/read.rt:25:5
 clear-words-requires : tie.Need-clear-words-requires
 clear-words-requires c κs = search needs
 
--- src/read.rt:26:5
 clear-sizes-requires : tie.Need-clear-sizes-requires
 clear-sizes-requires c κs = search needs
 
--- src/read.rt:28:9
 same-length : tie.Need-same-length
 same-length c = search needs
 
--- src/read.rt:28:9
 same-length-2 : tie.Need-same-length-2
 same-length-2 c = search needs
 
--- src/read.rt:28:9
 returns : tie.Need-returns
 returns c =
     let s = c .before .before .before .before .before .before .before .before .before .before .before .before in
     refused-is (now (s .args .file)) (read (now (s .args .file))) (now (s .args .table)) _ (now (s .args .sizes)) _ refusals.Large 0 (read-large (now (s .args .file)) (omega arith))
     (c .before .before .before .before .before .before .before .clear-words .ensures) (c .before .before .before .clear-sizes .ensures)
 
--- src/read.rt:30:11
 head-requires : tie.Need-head-requires
 head-requires c κs = search needs
 
--- src/read.rt:31:25
 enum-known-x : tie.Need-enum-known-x
 enum-known-x c = search needs
 
--- src/read.rt:32:25
 enum-known-n : tie.Need-enum-known-n
 enum-known-n c = search needs
 
--- src/read.rt:32:31
 records-requires : tie.Need-records-requires
 records-requires c κs =
     let s = c .before .before .before .before .before .before .before .before .before .before .before .before .before .before .before .before .before .before in
@@ -64,15 +55,12 @@ records-requires c κs =
     let z = zeros (v .last .0) (length (now (s .args .sizes))) (v .ensures) in
     (omega arith, sym (c .before .before .before .before .before .head .ensures) ∙ ap recordIs (c .before .before .before .n .given .1), omega arith, omega arith, t .1, z .1)
 
--- src/read.rt:20:1
 same-length-3 : tie.Need-same-length-3
 same-length-3 c = search needs
 
--- src/read.rt:20:1
 same-length-4 : tie.Need-same-length-4
 same-length-4 c = search needs
 
--- src/read.rt:20:1
 returns-2 : tie.Need-returns-2
 returns-2 c =
     let s = c .before .before .before .before .before .before .before .before .before .before .before .before .before .before .before .before in
@@ -80,15 +68,12 @@ returns-2 c =
     (read-head (now (s .args .file)) (omega arith) (refusalIs (c .before .x .given .0 .0)) (sym (c .before .before .before .head .ensures) ∙ ap recordIs (c .before .x .given .1)))
     (c .before .before .before .before .before .before .before .before .before .before .before .clear-words .ensures) (c .before .before .before .before .before .before .before .clear-sizes .ensures)
 
--- src/read.rt:20:1
 same-length-5 : tie.Need-same-length-5
 same-length-5 c = search needs
 
--- src/read.rt:20:1
 same-length-6 : tie.Need-same-length-6
 same-length-6 c = search needs
 
--- src/read.rt:20:1
 returns-3 : tie.Need-returns-3
 returns-3 c =
     let s = c .before .before .before .before .before .before .before .before .before .before .before .before .before .before .before .before .before .before .before .before .before .before .before in

@@ -22,37 +22,29 @@ use Rattle.grammar.proofs.rules.rules.Reads as rules-reads
 bounds : (s : tie.Start) → (10 ≤ length (now (s .args .file))) × (1 ≤ s .args .n) × (s .args .n ≤ 256)
 bounds s = head-bounds (now (s .args .file)) (s .pre .0) (s .args .n) (s .pre .1)
 
--- src/read.rt:43:11
 rules-requires : tie.Need-rules-requires
 rules-requires c κs =
     let s = c .before .before .before .before in
     (bounds s .0, s .pre .0, bounds s .2, s .pre .2)
 
--- src/read.rt:44:26
 enum-known-x : tie.Need-enum-known-x
 enum-known-x c = search needs
 
--- src/read.rt:45:13
 clear-words-requires : tie.Need-clear-words-requires
 clear-words-requires c κs = search needs
 
--- src/read.rt:48:24
 enum-known-end : tie.Need-enum-known-end
 enum-known-end c = search needs
 
--- src/read.rt:50:17
 clear-words-requires-2 : tie.Need-clear-words-requires-2
 clear-words-requires-2 c κs = search needs
 
--- src/read.rt:51:57
 add-t21 : tie.Need-add-t21
 add-t21 c = omega (arith, bounds (c .before .before .before .before .before .before .before .before .before .before .before .before .before .before .before) .2)
 
--- src/read.rt:51:17
 same-length : tie.Need-same-length
 same-length c = search needs
 
--- src/read.rt:51:17
 returns : tie.Need-returns
 returns c =
     let s = c .before .before .before .before .before .before .before .before .before .before .before .before .before .before .before in
@@ -65,7 +57,6 @@ returns c =
     (c .before .before .clear-words2 .ensures ∙ ap (λ (k : ℕ). replicate k 0) (entered-length file (a .n) (s .pre .0) (s .pre .1) (now (a .table)) (m .last .1 .1 .0) (m .result) (m .ensures) (e .0 .0) (e .1)))
     (s .pre .5)
 
--- src/read.rt:53:13
 whole-requires : tie.Need-whole-requires
 whole-requires c κs =
     let s = c .before .before .before .before .before .before .before .before .before .before .before .before .before in
@@ -75,11 +66,9 @@ whole-requires c κs =
     let e = c .before .before .before .before .end .given in
     (measurable file (a .n) (s .pre .0) (s .pre .1) (now (a .table)) (m .last .1 .1 .0) (m .result) (m .ensures) (e .0 .0) (e .1) (s .pre .4) (s .pre .2), counted file (s .pre .0) (a .n) (s .pre .1), s .pre .3, s .pre .5)
 
--- src/read.rt:37:1
 same-length-2 : tie.Need-same-length-2
 same-length-2 c = search needs
 
--- src/read.rt:37:1
 returns-2 : tie.Need-returns-2
 returns-2 c =
     let s = c .before .before .before .before .before .before .before .before .before .before .before .before .before .before in
@@ -91,15 +80,12 @@ returns-2 c =
     refused-is file (read file) (now (a .table)) _ (now (a .sizes)) _ (x .0 .0) (x .0 .1 .0) (q .0)
     (c .before .before .clear-words .ensures ∙ ap (λ (k : ℕ). replicate k 0) (q .1)) (s .pre .5)
 
--- src/read.rt:37:1
 same-length-3 : tie.Need-same-length-3
 same-length-3 c = search needs
 
--- src/read.rt:37:1
 same-length-4 : tie.Need-same-length-4
 same-length-4 c = search needs
 
--- src/read.rt:37:1
 returns-3 : tie.Need-returns-3
 returns-3 c =
     let s = c .before .before .before .before .before .before .before .before .before .before .before .before .before .before .before .before .before .before in

@@ -22,11 +22,9 @@ use Rattle.grammar.proofs.read.clear_words.Reads as clear-words-reads
 use Rattle.grammar.proofs.sizes.first_gaps.Reads as first-gaps-reads
 use Rattle.grammar.proofs.sizes.measure.Reads as measure-reads
 
--- src/read.rt:64:11
 measure-requires : tie.Need-measure-requires
 measure-requires c κs = search needs
 
--- src/read.rt:65:24
 enum-known-r : tie.Need-enum-known-r
 enum-known-r c = search needs
 
@@ -56,49 +54,38 @@ fit c =
     filled (writtenRules (now (s .args .file))) (M .is-formed) n (M .count ∙ sym (s .pre .1)) (m .result) (now (s .args .sizes)) (m .last .1 .1 .1 .0) (m .ensures)
     (c .enum-told .given .1) (s .pre .3) (s .pre .2)
 
--- src/read.rt:66:13
 clear-words-requires : tie.Need-clear-words-requires
 clear-words-requires c κs = search needs
 
--- src/read.rt:67:13
 clear-sizes-requires : tie.Need-clear-sizes-requires
 clear-sizes-requires c κs = search needs
 
--- src/read.rt:68:45
 add-t18 : tie.Need-add-t18
 add-t18 c = omega (arith, huge (c .before .before .before .before .before .before .before .before .before) .1)
 
--- src/read.rt:71:27
 enum-told : tie.Need-enum-told
 enum-told c = search needs
 
--- src/read.rt:71:34
 sub-first-gaps : tie.Need-sub-first-gaps
 sub-first-gaps c = fit (c .before) .some-rule
 
--- src/read.rt:71:16
 first-gaps-requires : tie.Need-first-gaps-requires
 first-gaps-requires c κs =
     let f = fit (c .before) in
     (f .room, omega arith, f .small)
 
--- src/read.rt:72:17
 clear-words-requires-2 : tie.Need-clear-words-requires-2
 clear-words-requires-2 c κs = search needs
 
--- src/read.rt:73:17
 clear-sizes-requires-2 : tie.Need-clear-sizes-requires-2
 clear-sizes-requires-2 c κs = search needs
 
--- src/read.rt:74:17
 same-length : tie.Need-same-length
 same-length c = search needs
 
--- src/read.rt:74:17
 same-length-2 : tie.Need-same-length-2
 same-length-2 c = search needs
 
--- src/read.rt:74:17
 returns : tie.Need-returns
 returns c =
     let d = c .before .before .before .before .before .before .before .before .before .before .before in
@@ -110,15 +97,12 @@ returns c =
     (c .before .before .before .before .before .before .clear-words2 .ensures)
     (c .before .before .clear-sizes2 .ensures ∙ ap (λ (k : ℕ). replicate k 0) (f .as-long))
 
--- src/read.rt:59:1
 same-length-3 : tie.Need-same-length-3
 same-length-3 c = search needs
 
--- src/read.rt:59:1
 same-length-4 : tie.Need-same-length-4
 same-length-4 c = search needs
 
--- src/read.rt:59:1
 returns-2 : tie.Need-returns-2
 returns-2 c =
     let d = c .before .before .before .before .before .before .before .before .before in
@@ -130,15 +114,12 @@ returns-2 c =
     (c .before .before .before .before .before .before .clear-words .ensures)
     (c .before .before .clear-sizes .ensures ∙ ap (λ (k : ℕ). replicate k 0) (huge d .2))
 
--- src/read.rt:59:1
 same-length-5 : tie.Need-same-length-5
 same-length-5 c = search needs
 
--- src/read.rt:59:1
 same-length-6 : tie.Need-same-length-6
 same-length-6 c = search needs
 
--- src/read.rt:59:1
 returns-3 : tie.Need-returns-3
 returns-3 c =
     let d = c .before .before .before in

@@ -10,67 +10,51 @@ use Rattle.grammar.proofs.rules.enter.Tie as tie
 use Rattle.grammar.proofs.rules.enter.Reads as reads
 use Rattle.grammar.proofs.rules.enter.Lts as lts
 
--- src/rules.rt:92:20
 cast-table : tie.Need-cast-table
 cast-table c = search needs
 
--- src/rules.rt:92:11
 mul-table : tie.Need-mul-table
 mul-table c = search needs
 
--- src/rules.rt:92:5
 mul-table-2 : tie.Need-mul-table-2
 mul-table-2 c = search needs
 
--- src/rules.rt:92:5
 slice-write-table : tie.Need-slice-write-table
 slice-write-table c = search needs
 
--- src/rules.rt:93:24
 cast-table-2 : tie.Need-cast-table-2
 cast-table-2 c = search needs
 
--- src/rules.rt:93:11
 mul-table-3 : tie.Need-mul-table-3
 mul-table-3 c = search needs
 
--- src/rules.rt:93:11
 add-table : tie.Need-add-table
 add-table c = search needs
 
--- src/rules.rt:93:5
 mul-table-4 : tie.Need-mul-table-4
 mul-table-4 c = search needs
 
--- src/rules.rt:93:5
 slice-write-table-2 : tie.Need-slice-write-table-2
 slice-write-table-2 c = simp length-set (omega arith)
 
--- src/rules.rt:94:24
 cast-table-3 : tie.Need-cast-table-3
 cast-table-3 c = search needs
 
--- src/rules.rt:94:11
 mul-table-5 : tie.Need-mul-table-5
 mul-table-5 c = search needs
 
--- src/rules.rt:94:11
 add-table-2 : tie.Need-add-table-2
 add-table-2 c = search needs
 
--- src/rules.rt:94:5
 mul-table-6 : tie.Need-mul-table-6
 mul-table-6 c = search needs
 
--- src/rules.rt:94:5
 slice-write-table-3 : tie.Need-slice-write-table-3
 slice-write-table-3 c = search needs
 
--- src/rules.rt:88:1
 same-length : tie.Need-same-length
 same-length c = search needs
 
--- src/rules.rt:88:1
 returns : tie.Need-returns
 returns c =
     let a = c .args in

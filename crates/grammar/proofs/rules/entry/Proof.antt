@@ -6,19 +6,15 @@ use Rattle.grammar.proofs.rules.entry.Tie as tie
 use Rattle.grammar.proofs.rules.entry.Reads as reads
 use Rattle.grammar.proofs.rules.entry.Lts as lts
 
--- src/rules.rt:123:5
 mul-result : tie.Need-mul-result
 mul-result c = search needs
 
--- src/rules.rt:123:5
 shared-slice-read-result : tie.Need-shared-slice-read-result
 shared-slice-read-result c = search needs
 
--- src/rules.rt:123:5
 cast-result : tie.Need-cast-result
 cast-result c = omega (arith, c .shared-slice-known .given (c .before .args .i))
 
--- src/rules.rt:119:1
 returns : tie.Need-returns
 returns c = search needs
 

@@ -12,19 +12,15 @@ use Rattle.grammar.proofs.rules.rule_at.Lts as lts
 use Rattle.grammar.proofs.file.record_at.Reads as record-at-reads
 use Rattle.grammar.proofs.rules.rule_in.Reads as rule-in-reads
 
--- src/rules.rt:28:11
 record-at-requires : tie.Need-record-at-requires
 record-at-requires c κs = search needs
 
--- src/rules.rt:29:25
 enum-known-x : tie.Need-enum-known-x
 enum-known-x c = search needs
 
--- src/rules.rt:30:25
 enum-known-len : tie.Need-enum-known-len
 enum-known-len c = search needs
 
--- src/rules.rt:30:33
 rule-in-requires : tie.Need-rule-in-requires
 rule-in-requires c κs =
     let s = c .before .before .before .before .before .before in
@@ -39,7 +35,6 @@ rule-in-requires c κs =
       len-four (now (a .file)) (a .at) (c .before .len .given .0 .0) (s .pre .0) e,
     )
 
--- src/rules.rt:24:1
 returns : tie.Need-returns
 returns c =
     let s = c .before .before .before .before .before .before in
@@ -48,7 +43,6 @@ returns c =
     (rule-refused (ranksIn (a .r) (now (a .table))) (a .last) (drop (a .at) (now (a .file))) (refusalIs (c .before .x .given .0 .0))
     (sym (c .before .before .before .record-at .ensures) ∙ ap recordIs (c .before .x .given .1)))
 
--- src/rules.rt:24:1
 returns-2 : tie.Need-returns-2
 returns-2 c = search needs
 

@@ -17,19 +17,15 @@ use Rattle.grammar.proofs.bodies.legal.Reads as legal-reads
 use Rattle.grammar.proofs.bodies.shaped.Reads as shaped-reads
 use Rattle.grammar.proofs.file.word_at.Reads as word-at-reads
 
--- src/rules.rt:40:30
 add-word-at : tie.Need-add-word-at
 add-word-at c = search needs
 
--- src/rules.rt:40:16
 word-at-requires : tie.Need-word-at-requires
 word-at-requires c κs = search needs
 
--- src/rules.rt:40:16
 cast-rank : tie.Need-cast-rank
 cast-rank c = search needs
 
--- src/rules.rt:42:9
 returns : tie.Need-returns
 returns c =
     let s = c .before .before .before .before in
@@ -38,7 +34,6 @@ returns c =
     sym (rule-rank-high (now (a .file)) (a .at) (a .len) (s .pre .0) (s .pre .4) (ranksIn (a .r) (now (a .table))) (a .r) (length-ranks (a .r) (now (a .table))) (a .last)
     (k .result) (k .ensures) (omega arith))
 
--- src/rules.rt:46:13
 returns-2 : tie.Need-returns-2
 returns-2 c =
     let s = c .before .before .before .before .before .before in
@@ -57,19 +52,15 @@ good c =
     (λ w. rank-below-start k last (omega arith) (w .left))
     (c .if2 .came)
 
--- src/rules.rt:49:18
 sub-words : tie.Need-sub-words
 sub-words c = search needs
 
--- src/rules.rt:50:21
 add-legal : tie.Need-add-legal
 add-legal c = search needs
 
--- src/rules.rt:50:9
 legal-requires : tie.Need-legal-requires
 legal-requires c κs = search needs
 
--- src/rules.rt:51:9
 returns-3 : tie.Need-returns-3
 returns-3 c =
     let s = c .before .before .before .before .before .before .before in
@@ -78,15 +69,12 @@ returns-3 c =
     sym (rule-illegal (now (a .file)) (a .at) (a .len) (s .pre .0) (s .pre .4) (ranksIn (a .r) (now (a .table))) (a .r) (length-ranks (a .r) (now (a .table))) (a .last)
     (k .result) (k .ensures) (good (c .before .before)) (sym (c .before .legal .ensures) ∙ not-true _ (c .if4 .taken)))
 
--- src/rules.rt:53:22
 add-shaped : tie.Need-add-shaped
 add-shaped c = search needs
 
--- src/rules.rt:53:9
 shaped-requires : tie.Need-shaped-requires
 shaped-requires c κs = search needs
 
--- src/rules.rt:54:9
 returns-4 : tie.Need-returns-4
 returns-4 c =
     let s = c .before .before .before .before .before .before .before .before .before in
@@ -96,7 +84,6 @@ returns-4 c =
     (k .result) (k .ensures) (good (c .before .before .before .before)) (sym (c .before .before .before .legal .ensures) ∙ not-false _ (c .before .before .if4 .left))
     (sym (c .before .shaped .ensures) ∙ not-true _ (c .if5 .taken)))
 
--- src/rules.rt:35:1
 returns-5 : tie.Need-returns-5
 returns-5 c =
     let s = c .before .before .before .before .before .before .before .before .before in

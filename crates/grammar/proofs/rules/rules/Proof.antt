@@ -23,15 +23,12 @@ Inv-loop file n table₀ at₀ r₀ table at r = Here file n table₀ table at r
 abbrev μ-loop : tie.MeasureT-loop
 μ-loop file n table₀ at₀ r₀ table at r = n - r
 
--- src/rules.rt:72:5
 loop-holds : tie.Need-loop-holds Inv-loop μ-loop
 loop-holds c = at-first (now (c .before .before .args .file)) (c .before .before .args .n) (now (c .before .before .args .table)) (c .before .before .pre .0)
 
--- src/rules.rt:73:43
 add-rule-at : tie.Need-add-rule-at Inv-loop μ-loop
 add-rule-at c = search needs
 
--- src/rules.rt:73:15
 rule-at-requires : tie.Need-rule-at-requires Inv-loop μ-loop
 rule-at-requires c κs =
     let s = c .before .before .before .before .before in
@@ -40,15 +37,12 @@ rule-at-requires c κs =
     let size : length (l .table) ≡ length (now (a .table)) = same-size (now (a .file)) (a .n) (now (a .table)) (l .table) (l .at) (l .r) _ (l .inv) (omega arith) in
     (l .inv .within, s .pre .1, omega arith, ranks-small (now (a .file)) (a .n) (now (a .table)) (l .table) (l .at) (l .r) _ (l .inv) (omega arith))
 
--- src/rules.rt:74:28
 enum-known-x : tie.Need-enum-known-x Inv-loop μ-loop
 enum-known-x c = search needs
 
--- src/rules.rt:75:44
 add-t14 : tie.Need-add-t14 Inv-loop μ-loop
 add-t14 c = omega arith
 
--- src/rules.rt:75:17
 same-length : tie.Need-same-length Inv-loop μ-loop
 same-length c =
     let s = c .before .before .before .before .before .before .before .before .before in
@@ -56,7 +50,6 @@ same-length c =
     let l = c .before .before .before .before .before .before .loop in
     same-size (now (a .file)) (a .n) (now (a .table)) (l .table) (l .at) (l .r) _ (l .inv) (omega arith)
 
--- src/rules.rt:75:17
 returns : tie.Need-returns Inv-loop μ-loop
 returns c =
     let s = c .before .before .before .before .before .before .before .before .before in
@@ -67,7 +60,6 @@ returns c =
       same-size (now (a .file)) (a .n) (now (a .table)) (l .table) (l .at) (l .r) _ (l .inv) (omega arith),
     )
 
--- src/rules.rt:77:25
 enum-known-rank : tie.Need-enum-known-rank Inv-loop μ-loop
 enum-known-rank c = search needs
 
@@ -84,11 +76,9 @@ found c =
     found-here (now (a .file)) (a .n) (now (a .table)) (l .table) (l .at) (l .r) _ (l .inv) (omega arith) (eqb (l .r + 1) (a .n)) (g .0 .0) (g .0 .1 .0)
     (sym (c .before .before .rule-at .ensures) ∙ ap foundIs (g .1))
 
--- src/rules.rt:78:39
 add-enter : tie.Need-add-enter Inv-loop μ-loop
 add-enter c = omega arith
 
--- src/rules.rt:78:17
 enter-requires : tie.Need-enter-requires Inv-loop μ-loop
 enter-requires c κs =
     let s = c .before .before .before .before .before .before .before .before .before .before in
@@ -98,27 +88,21 @@ enter-requires c κs =
     let size : length (l .table) ≡ length (now (a .table)) = same-size (now (a .file)) (a .n) (now (a .table)) (l .table) (l .at) (l .r) _ (l .inv) (omega arith) in
     (omega arith, omega (arith, t .rank-small), omega (arith, t .fits), omega (arith, t .fits))
 
--- src/rules.rt:79:22
 add-at : tie.Need-add-at Inv-loop μ-loop
 add-at c = omega arith
 
--- src/rules.rt:79:31
 mul-at : tie.Need-mul-at Inv-loop μ-loop
 mul-at c = omega (arith, found (c .before .before .before .before .before) .fits)
 
--- src/rules.rt:79:22
 add-at-2 : tie.Need-add-at-2 Inv-loop μ-loop
 add-at-2 c = omega (arith, found (c .before .before .before .before .before) .fits)
 
--- src/rules.rt:82:9
 add-r : tie.Need-add-r Inv-loop μ-loop
 add-r c = omega arith
 
--- src/rules.rt:72:5
 loop-less : tie.Need-loop-less Inv-loop μ-loop
 loop-less c = omega arith
 
--- src/rules.rt:72:5
 loop-again : tie.Need-loop-again Inv-loop μ-loop
 loop-again c =
     let s = c .before .before .before .before .before .before .before .before .before .before .before .before .before in
@@ -128,14 +112,12 @@ loop-again c =
     at-next (now (a .file)) (a .n) (now (a .table)) (l .table) (l .at) (l .r) (l .inv) (omega arith) (omega arith) (g .0 .0) (g .0 .1 .0) (found (c .before .before .before .before .before)) (c .before .before .enter .last .0)
     (c .before .before .enter .ensures)
 
--- src/rules.rt:66:1
 same-length-2 : tie.Need-same-length-2 Inv-loop μ-loop
 same-length-2 c =
     let a = c .before .before .before .before .args in
     let l = c .before .loop in
     same-size (now (a .file)) (a .n) (now (a .table)) (l .table) (l .at) (l .r) _ (l .inv) (omega arith)
 
--- src/rules.rt:66:1
 returns-2 : tie.Need-returns-2 Inv-loop μ-loop
 returns-2 c =
     let a = c .before .before .before .before .args in

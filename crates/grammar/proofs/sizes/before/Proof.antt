@@ -29,7 +29,6 @@ Inv-loop file at place table r sizes sum₀ depth₀ i₀ sum depth i =
 abbrev μ-loop : tie.MeasureT-loop
 μ-loop file at place table r sizes sum₀ depth₀ i₀ sum depth i = i
 
--- src/sizes.rt:91:5
 loop-holds : tie.Need-loop-holds Inv-loop μ-loop
 loop-holds c =
     let s = c .before .before .before in
@@ -42,23 +41,18 @@ loop-holds c =
       omega arith,
     )
 
--- src/sizes.rt:92:9
 sub-i : tie.Need-sub-i Inv-loop μ-loop
 sub-i c = omega arith
 
--- src/sizes.rt:93:36
 mul-word-at : tie.Need-mul-word-at Inv-loop μ-loop
 mul-word-at c = omega arith
 
--- src/sizes.rt:93:31
 add-word-at : tie.Need-add-word-at Inv-loop μ-loop
 add-word-at c = omega arith
 
--- src/sizes.rt:93:13
 word-at-requires : tie.Need-word-at-requires Inv-loop μ-loop
 word-at-requires c κs = omega arith
 
--- src/sizes.rt:94:13
 rank-of-requires : tie.Need-rank-of-requires Inv-loop μ-loop
 rank-of-requires c κs = omega (arith, c .before .before .before .before .before .before .pre)
 
@@ -83,26 +77,21 @@ passed-word c =
       λ h. word-beside (now (a .file)) (a .at) (a .place) (s .pre .0) (l .i) w (omega arith) (omega arith) is rk (now (a .sizes)) (l .depth) (l .sum) (l .inv .1) (l .inv .2) h,
     )
 
--- src/sizes.rt:96:31
 add-own : tie.Need-add-own Inv-loop μ-loop
 add-own c = omega arith
 
--- src/sizes.rt:96:20
 own-requires : tie.Need-own-requires Inv-loop μ-loop
 own-requires c κs =
     let s = c .before .before .before .before .before .before .before .before in
     let k = rank-small (s .args .r) (now (s .args .table)) (s .pre .5) (c .before .before .word-at .result) in
     (omega (arith, s .pre), omega (arith, c .before .rank-of .ensures), s .pre .3)
 
--- src/sizes.rt:96:13
 add-sum : tie.Need-add-sum Inv-loop μ-loop
 add-sum c = omega arith
 
--- src/sizes.rt:91:5
 loop-less : tie.Need-loop-less Inv-loop μ-loop
 loop-less c = omega arith
 
--- src/sizes.rt:91:5
 loop-again : tie.Need-loop-again Inv-loop μ-loop
 loop-again c =
     let k = c .before .before .rank-of .ensures in
@@ -110,25 +99,20 @@ loop-again c =
     let m = passed-word (c .before .before) .0 (omega arith) in
     (omega arith, omega arith, omega arith, omega arith, omega arith)
 
--- src/sizes.rt:99:20
 own-requires-2 : tie.Need-own-requires-2 Inv-loop μ-loop
 own-requires-2 c κs =
     let s = c .before .before .before .before .before .before .before .before in
     (omega (arith, s .pre), omega arith, s .pre .3)
 
--- src/sizes.rt:99:13
 add-sum-2 : tie.Need-add-sum-2 Inv-loop μ-loop
 add-sum-2 c = omega arith
 
--- src/sizes.rt:100:21
 add-depth : tie.Need-add-depth Inv-loop μ-loop
 add-depth c = omega arith
 
--- src/sizes.rt:91:5
 loop-less-2 : tie.Need-loop-less-2 Inv-loop μ-loop
 loop-less-2 c = omega arith
 
--- src/sizes.rt:91:5
 loop-again-2 : tie.Need-loop-again-2 Inv-loop μ-loop
 loop-again-2 c =
     let k = c .before .before .rank-of .ensures in
@@ -136,7 +120,6 @@ loop-again-2 c =
     let m = passed-word (c .before .before) .1 (omega arith) in
     (omega arith, omega arith, omega arith, omega arith, omega arith)
 
--- src/sizes.rt:75:1
 returns : tie.Need-returns Inv-loop μ-loop
 returns c =
     let s = c .before .before .before .before .before in

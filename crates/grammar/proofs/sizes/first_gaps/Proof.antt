@@ -16,41 +16,32 @@ Inv-loop sizes j k sum₀ i₀ sum i = (i ≤ k) × (sum ≡ firstGaps sizes j i
 abbrev μ-loop : tie.MeasureT-loop
 μ-loop sizes j k sum₀ i₀ sum i = k - i
 
--- src/sizes.rt:38:5
 loop-holds : tie.Need-loop-holds Inv-loop μ-loop
 loop-holds c = (omega arith, refl, omega arith)
 
--- src/sizes.rt:39:22
 mul-sum : tie.Need-mul-sum Inv-loop μ-loop
 mul-sum c = omega arith
 
--- src/sizes.rt:39:22
 add-sum : tie.Need-add-sum Inv-loop μ-loop
 add-sum c = omega arith
 
--- src/sizes.rt:39:16
 mul-sum-2 : tie.Need-mul-sum-2 Inv-loop μ-loop
 mul-sum-2 c = omega arith
 
--- src/sizes.rt:39:16
 shared-slice-read-sum : tie.Need-shared-slice-read-sum Inv-loop μ-loop
 shared-slice-read-sum c = omega arith
 
--- src/sizes.rt:39:9
 add-sum-2 : tie.Need-add-sum-2 Inv-loop μ-loop
 add-sum-2 c =
     let s = c .before .before .before in
     omega (arith, s .pre .2 (5 * s .args .j + c .before .before .loop .i))
 
--- src/sizes.rt:40:9
 add-i : tie.Need-add-i Inv-loop μ-loop
 add-i c = omega arith
 
--- src/sizes.rt:38:5
 loop-less : tie.Need-loop-less Inv-loop μ-loop
 loop-less c = omega arith
 
--- src/sizes.rt:38:5
 loop-again : tie.Need-loop-again Inv-loop μ-loop
 loop-again c =
     let s = c .before .before .before in
@@ -60,7 +51,6 @@ loop-again c =
       omega (arith, s .pre .2 (5 * s .args .j + l .i)),
     )
 
--- src/sizes.rt:32:1
 returns : tie.Need-returns Inv-loop μ-loop
 returns c =
     let s = c .before .before in

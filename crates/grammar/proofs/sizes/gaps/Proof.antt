@@ -32,11 +32,9 @@ at-start : (s : tie.Start Inv-loop μ-loop)
     → (s .args .r < 256) × (3 * s .args .r + 2 < length (now (s .args .table))) × (5 * s .args .r + 5 ≤ length (now (s .args .sizes)))
 at-start s = inside (s .pre .0) (s .args .r) (s .pre .1) (now (s .args .sizes)) (s .pre .2)
 
--- src/sizes.rt:146:9
 place-requires : tie.Need-place-requires Inv-loop μ-loop
 place-requires c κs = at-start (c .before .before .before) .1
 
--- src/sizes.rt:147:9
 words-requires : tie.Need-words-requires Inv-loop μ-loop
 words-requires c κs = at-start (c .before .before .before .before) .1
 
@@ -48,11 +46,9 @@ there c =
     let s = c .before .before .before .before .before in
     body-there (s .pre .0) (s .args .r) (s .pre .1) (c .before .place .ensures) (c .words .ensures)
 
--- src/sizes.rt:149:17
 mul-m : tie.Need-mul-m Inv-loop μ-loop
 mul-m c = omega (arith, at-start (c .before .before .before .before .before))
 
--- src/sizes.rt:151:5
 loop-holds : tie.Need-loop-holds Inv-loop μ-loop
 loop-holds c =
     let s = c .before .before .before .before .before in
@@ -62,23 +58,18 @@ loop-holds c =
           (now (a .sizes)) (s .pre .3),
     )
 
--- src/sizes.rt:152:41
 mul-word-at : tie.Need-mul-word-at Inv-loop μ-loop
 mul-word-at c = let t = there (c .before .before) in omega (arith, t .fits, t .short)
 
--- src/sizes.rt:152:36
 add-word-at : tie.Need-add-word-at Inv-loop μ-loop
 add-word-at c = let t = there (c .before .before) in omega (arith, t .fits, t .short)
 
--- src/sizes.rt:152:22
 word-at-requires : tie.Need-word-at-requires Inv-loop μ-loop
 word-at-requires c κs = let t = there (c .before .before) in omega (arith, t .fits, t .short)
 
--- src/sizes.rt:152:12
 parameter-requires : tie.Need-parameter-requires Inv-loop μ-loop
 parameter-requires c κs = search needs
 
--- src/sizes.rt:153:17
 before-requires : tie.Need-before-requires Inv-loop μ-loop
 before-requires c κs =
     let s = c .before .before .before .before .before .before .before .before .before .before .before in
@@ -128,31 +119,24 @@ found c =
     (l .i) (l .last) (l .m) (l .sizes) (l .inv .1) (omega (arith, s .pre .4, s .pre .5))
     (in-body M (a .r) (s .pre .1) t (l .i) (omega arith)) p b q
 
--- src/sizes.rt:154:24
 sub-sizes : tie.Need-sub-sizes Inv-loop μ-loop
 sub-sizes c = found c .0
 
--- src/sizes.rt:154:13
 mul-sizes : tie.Need-mul-sizes Inv-loop μ-loop
 mul-sizes c = omega (arith, room-left (c .before .before .before .before .before .before))
 
--- src/sizes.rt:154:13
 slice-write-sizes : tie.Need-slice-write-sizes Inv-loop μ-loop
 slice-write-sizes c = omega (arith, room-left (c .before .before .before .before .before .before))
 
--- src/sizes.rt:156:13
 add-m : tie.Need-add-m Inv-loop μ-loop
 add-m c = omega (arith, room-left (c .before .before .before .before .before .before))
 
--- src/sizes.rt:158:9
 add-i : tie.Need-add-i Inv-loop μ-loop
 add-i c = omega (arith, there (c .before .before .before .before .before) .short)
 
--- src/sizes.rt:151:5
 loop-less : tie.Need-loop-less Inv-loop μ-loop
 loop-less c = omega arith
 
--- src/sizes.rt:151:5
 loop-again : tie.Need-loop-again Inv-loop μ-loop
 loop-again c =
     ⊎-elim
@@ -190,23 +174,18 @@ finished c =
     (at-start s .2) (l .i) (l .last) (l .m) (l .sizes) (l .inv .1) (omega (arith, s .pre .4, s .pre .5))
     (omega (arith, there (c .before .before) .many)) (a .all) (s .pre .4)
 
--- src/sizes.rt:160:16
 sub-sizes-2 : tie.Need-sub-sizes-2 Inv-loop μ-loop
 sub-sizes-2 c = finished c .0
 
--- src/sizes.rt:160:5
 mul-sizes-2 : tie.Need-mul-sizes-2 Inv-loop μ-loop
 mul-sizes-2 c = omega (arith, room-left (c .before))
 
--- src/sizes.rt:160:5
 slice-write-sizes-2 : tie.Need-slice-write-sizes-2 Inv-loop μ-loop
 slice-write-sizes-2 c = omega (arith, room-left (c .before))
 
--- src/sizes.rt:141:1
 same-length : tie.Need-same-length Inv-loop μ-loop
 same-length c = simp length-set (c .before .loop .inv .1 .long)
 
--- src/sizes.rt:141:1
 returns : tie.Need-returns Inv-loop μ-loop
 returns c = finished c .1
 

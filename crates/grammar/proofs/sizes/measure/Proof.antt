@@ -19,24 +19,20 @@ Inv-loop file n table sizes₀ r₀ sizes r = (r ≤ n) × MeasuredTo (writtenRu
 abbrev μ-loop : tie.MeasureT-loop
 μ-loop file n table sizes₀ r₀ sizes r = n - r
 
--- src/sizes.rt:118:5
 loop-holds : tie.Need-loop-holds Inv-loop μ-loop
 loop-holds c =
     let s = c .before .before .before in
     (omega arith, none-yet (writtenRules (now (s .args .file))) (now (s .args .sizes)) (s .pre .3))
 
--- src/sizes.rt:119:13
 measure-rule-requires : tie.Need-measure-rule-requires Inv-loop μ-loop
 measure-rule-requires c κs =
     let s = c .before .before .before .before .before .before in
     let l = c .before .before .loop in
     (s .pre .0, omega (arith, s .pre .1), omega (arith, l .inv .1 .long, s .pre .2), l .inv .1 .below)
 
--- src/sizes.rt:120:13
 same-length : tie.Need-same-length Inv-loop μ-loop
 same-length c = c .before .before .before .measure-rule .kept .1 .1 .1 .0 ∙ c .before .before .before .before .before .before .loop .inv .1 .long
 
--- src/sizes.rt:120:13
 returns : tie.Need-returns Inv-loop μ-loop
 returns c =
     let s = c .before .before .before .before .before .before .before .before .before .before in
@@ -48,15 +44,12 @@ returns c =
       c .before .before .before .measure-rule .kept .1 .1 .1 .0 ∙ l .inv .1 .long,
     )
 
--- src/sizes.rt:122:9
 add-r : tie.Need-add-r Inv-loop μ-loop
 add-r c = omega arith
 
--- src/sizes.rt:118:5
 loop-less : tie.Need-loop-less Inv-loop μ-loop
 loop-less c = omega arith
 
--- src/sizes.rt:118:5
 loop-again : tie.Need-loop-again Inv-loop μ-loop
 loop-again c =
     let s = c .before .before .before .before .before .before .before .before .before .before in
@@ -67,11 +60,9 @@ loop-again c =
           (c .before .before .before .measure-rule .result) (not-false _ (c .if1 .left)) (c .before .before .before .measure-rule .last .1 .1 .1 .0) (c .before .before .before .measure-rule .ensures) (c .before .before .before .measure-rule .kept .1 .1 .1 .0),
     )
 
--- src/sizes.rt:113:1
 same-length-2 : tie.Need-same-length-2 Inv-loop μ-loop
 same-length-2 c = c .before .loop .inv .1 .long
 
--- src/sizes.rt:113:1
 returns-2 : tie.Need-returns-2 Inv-loop μ-loop
 returns-2 c =
     let s = c .before .before .before .before .before in

@@ -19,11 +19,9 @@ use Rattle.grammar.proofs.rules.words.Reads as words-reads
 use Rattle.grammar.proofs.sizes.gaps.Reads as gaps-reads
 use Rattle.grammar.proofs.sizes.total.Reads as total-reads
 
--- src/sizes.rt:132:27
 place-requires : tie.Need-place-requires
 place-requires c κs = let s = c .before .before .before in inside (s .pre .0) (s .args .r) (s .pre .1) (now (s .args .sizes)) (s .pre .2) .1
 
--- src/sizes.rt:132:44
 words-requires : tie.Need-words-requires
 words-requires c κs = let s = c .before .before .before .before in inside (s .pre .0) (s .args .r) (s .pre .1) (now (s .args .sizes)) (s .pre .2) .1
 
@@ -35,7 +33,6 @@ there c =
     let s = c .before .before .before .before .before in
     body-there (s .pre .0) (s .args .r) (s .pre .1) (c .before .place .ensures) (c .words .ensures)
 
--- src/sizes.rt:132:9
 total-requires : tie.Need-total-requires
 total-requires c κs =
     let s = c .before .before .before .before .before .before in
@@ -50,25 +47,20 @@ found c =
     let s = c .before .before .before .before .before .before .before in
     c .total .ensures .0 ∙ size-found (s .pre .0) (s .args .r) (s .pre .1) (there (c .before .before)) (now (s .args .sizes)) (s .pre .3)
 
--- src/sizes.rt:134:9
 same-length : tie.Need-same-length
 same-length c = search needs
 
--- src/sizes.rt:134:9
 returns : tie.Need-returns
 returns c = omega (arith, found (c .before), c .if1 .taken)
 
--- src/sizes.rt:136:5
 gaps-requires : tie.Need-gaps-requires
 gaps-requires c κs =
     let s = c .before .before .before .before .before .before .before .before .before in
     (s .pre .0, s .pre .1, s .pre .2, s .pre .3, found (c .before .before), omega (arith, c .before .if1 .left))
 
--- src/sizes.rt:128:1
 same-length-2 : tie.Need-same-length-2
 same-length-2 c = search needs
 
--- src/sizes.rt:128:1
 returns-2 : tie.Need-returns-2
 returns-2 c =
     let f = found (c .before .before .before .before .before) in

@@ -13,31 +13,24 @@ use Rattle.grammar.proofs.sizes.own.Lts as lts
 use Rattle.grammar.proofs.sizes.first_gaps.Reads as first-gaps-reads
 use Rattle.grammar.proofs.words.sort.Reads as sort-reads
 
--- src/sizes.rt:50:11
 sort-requires : tie.Need-sort-requires
 sort-requires c κs = search needs
 
--- src/sizes.rt:51:24
 enum-told : tie.Need-enum-told
 enum-told c = search needs
 
--- src/sizes.rt:52:24
 enum-told-2 : tie.Need-enum-told-2
 enum-told-2 c = search needs
 
--- src/sizes.rt:53:31
 enum-told-3 : tie.Need-enum-told-3
 enum-told-3 c = search needs
 
--- src/sizes.rt:54:20
 enum-known-j : tie.Need-enum-known-j
 enum-known-j c = search needs
 
--- src/sizes.rt:54:44
 cast-first-gaps : tie.Need-cast-first-gaps
 cast-first-gaps c = search needs
 
--- src/sizes.rt:54:26
 first-gaps-requires : tie.Need-first-gaps-requires
 first-gaps-requires c κs =
     let s = c .before .before .before .before .before in
@@ -46,28 +39,22 @@ first-gaps-requires c κs =
     let h : j < 256 = call-word (s .args .w) j e .1 in
     (omega arith, omega arith, s .pre .2)
 
--- src/sizes.rt:55:26
 enum-told-4 : tie.Need-enum-told-4
 enum-told-4 c = search needs
 
--- src/sizes.rt:46:1
 returns : tie.Need-returns
 returns c = rw (← c .before .before .sort .ensures, c .enum-told .given .1) (refl, omega arith)
 
--- src/sizes.rt:46:1
 returns-2 : tie.Need-returns-2
 returns-2 c = rw (← c .before .before .sort .ensures, c .enum-told2 .given .1) (refl, omega arith)
 
--- src/sizes.rt:46:1
 returns-3 : tie.Need-returns-3
 returns-3 c = rw (← c .before .before .sort .ensures, c .enum-told3 .given .1) (refl, omega arith)
 
--- src/sizes.rt:46:1
 returns-4 : tie.Need-returns-4
 returns-4 c =
     rw (← c .before .before .before .before .sort .ensures, c .before .before .j .given .1) (c .first-gaps .ensures)
 
--- src/sizes.rt:46:1
 returns-5 : tie.Need-returns-5
 returns-5 c = rw (← c .before .before .sort .ensures, c .enum-told4 .given .1) (refl, omega arith)
 

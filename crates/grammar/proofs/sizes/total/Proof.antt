@@ -22,43 +22,34 @@ Inv-loop file at words sizes sum₀ i₀ sum i =
 abbrev μ-loop : tie.MeasureT-loop
 μ-loop file at words sizes sum₀ i₀ sum i = i
 
--- src/sizes.rt:66:5
 loop-holds : tie.Need-loop-holds Inv-loop μ-loop
 loop-holds c =
     let s = c .before .before in
     (omega arith, sum-none (now (s .args .file)) (s .args .at) (s .args .words) (s .pre .0) (ownBy (now (s .args .sizes)) 5), omega arith)
 
--- src/sizes.rt:67:9
 sub-i : tie.Need-sub-i Inv-loop μ-loop
 sub-i c = omega arith
 
--- src/sizes.rt:68:49
 mul-word-at : tie.Need-mul-word-at Inv-loop μ-loop
 mul-word-at c = omega arith
 
--- src/sizes.rt:68:44
 add-word-at : tie.Need-add-word-at Inv-loop μ-loop
 add-word-at c = omega arith
 
--- src/sizes.rt:68:30
 word-at-requires : tie.Need-word-at-requires Inv-loop μ-loop
 word-at-requires c κs = omega arith
 
--- src/sizes.rt:68:16
 own-requires : tie.Need-own-requires Inv-loop μ-loop
 own-requires c κs =
     let s = c .before .before .before .before .before in
     (omega (arith, s .pre), omega arith, s .pre .3)
 
--- src/sizes.rt:68:9
 add-sum : tie.Need-add-sum Inv-loop μ-loop
 add-sum c = omega arith
 
--- src/sizes.rt:66:5
 loop-less : tie.Need-loop-less Inv-loop μ-loop
 loop-less c = omega arith
 
--- src/sizes.rt:66:5
 loop-again : tie.Need-loop-again Inv-loop μ-loop
 loop-again c =
     let s = c .before .before .before .before .before .before in
@@ -70,7 +61,6 @@ loop-again c =
     (ownBy (now (a .sizes)) 5) (l .sum) (l .inv .1) in
     (omega arith, omega arith, omega arith)
 
--- src/sizes.rt:60:1
 returns : tie.Need-returns Inv-loop μ-loop
 returns c =
     let s = c .before .before .before .before in

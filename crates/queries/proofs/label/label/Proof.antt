@@ -12,19 +12,15 @@ use Rattle.queries.proofs.label.label.Reads as reads
 use Rattle.queries.proofs.label.label.Lts as lts
 use Rattle.queries.proofs.window.window.Reads as window-reads
 
--- src/window.rt:93:34
 slice-aggregate-window : tie.Need-slice-aggregate-window
 slice-aggregate-window c = search needs
 
--- src/window.rt:93:9
 window-requires : tie.Need-window-requires
 window-requires c κs = search needs
 
--- src/window.rt:96:15
 array-read-t9 : tie.Need-array-read-t9
 array-read-t9 c = search needs
 
--- src/window.rt:89:1
 returns : tie.Need-returns
 returns c =
     let a = c .before .before .before .before .args in

@@ -19,39 +19,30 @@ Inv-loop file n table sizes pieces₀ starts₀ opens₀ top₀ r₀ pieces star
 abbrev μ-loop : tie.MeasureT-loop
 μ-loop file n table sizes pieces₀ starts₀ opens₀ top₀ r₀ pieces starts opens top r = n - r
 
--- src/pieces.rt:160:5
 loop-holds : tie.Need-loop-holds Inv-loop μ-loop
 loop-holds c = (c .before .before .before .before .before .before .pre .0, omega arith, refl)
 
--- src/pieces.rt:161:9
 spell-requires : tie.Need-spell-requires Inv-loop μ-loop
 spell-requires c κs = (c .before .before .before .before .loop .inv .0, omega arith, omega (arith, c .before .before .before .before .loop .inv .2))
 
--- src/pieces.rt:162:9
 add-r : tie.Need-add-r Inv-loop μ-loop
 add-r c = omega (arith, c .before .before .before .before .before .before .before .before .before .before .before .loop .inv .0 .held .few)
 
--- src/pieces.rt:160:5
 loop-less : tie.Need-loop-less Inv-loop μ-loop
 loop-less c = omega arith
 
--- src/pieces.rt:160:5
 loop-again : tie.Need-loop-again Inv-loop μ-loop
 loop-again c = (one-more (c .before .before .before .before .before .before .spell .ensures), omega arith, omega (arith, c .before .before .before .before .before .before .before .before .before .before .before .loop .inv .2))
 
--- src/pieces.rt:154:1
 same-length : tie.Need-same-length Inv-loop μ-loop
 same-length c = c .before .loop .inv .0 .pieces-long ∙ sym (c .before .before .before .before .before .before .before .before .pre .0 .pieces-long)
 
--- src/pieces.rt:154:1
 same-length-2 : tie.Need-same-length-2 Inv-loop μ-loop
 same-length-2 c = c .before .loop .inv .0 .long ∙ sym (c .before .before .before .before .before .before .before .before .pre .0 .long)
 
--- src/pieces.rt:154:1
 same-length-3 : tie.Need-same-length-3 Inv-loop μ-loop
 same-length-3 c = c .before .loop .inv .2
 
--- src/pieces.rt:154:1
 returns : tie.Need-returns Inv-loop μ-loop
 returns c = let e : c .before .loop .r ≡ c .before .before .before .before .before .before .before .before .args .n = omega (arith, c .before .loop .inv .1) in subst (λ (k : ℕ). Spelt (now (c .before .before .before .before .before .before .before .before .args .file)) (c .before .before .before .before .before .before .before .before .args .n) k (now (c .before .before .before .before .before .before .before .before .args .table)) (now (c .before .before .before .before .before .before .before .before .args .sizes)) (c .before .loop .pieces) (c .before .loop .starts) (c .before .loop .top)) e (c .before .loop .inv .0)
 

@@ -18,83 +18,63 @@ Inv-loop sizes starts pieces₀ opens₀ top depth t₀ d₀ pieces opens t d =
 abbrev μ-loop : tie.MeasureT-loop
 μ-loop sizes starts pieces₀ opens₀ top depth t₀ d₀ pieces opens t d = d
 
--- src/pieces.rt:54:5
 loop-holds : tie.Need-loop-holds Inv-loop μ-loop
 loop-holds c = closes-start _ _ _ _ _ _
 
--- src/pieces.rt:55:23
 sub-e : tie.Need-sub-e Inv-loop μ-loop
 sub-e c = omega arith
 
--- src/pieces.rt:55:17
 mul-e : tie.Need-mul-e Inv-loop μ-loop
 mul-e c = omega (arith, turn-there (c .before .before .before .before .before .before .pre) (c .before .loop .inv) (omega arith), c .before .loop .inv .length-opens)
 
--- src/pieces.rt:55:17
 slice-read-e : tie.Need-slice-read-e Inv-loop μ-loop
 slice-read-e c = turn-there (c .before .before .before .before .before .before .before .pre) (c .before .before .loop .inv) (omega arith)
 
--- src/pieces.rt:56:49
 cast-code-for : tie.Need-cast-code-for Inv-loop μ-loop
 cast-code-for c = omega arith
 
--- src/pieces.rt:56:13
 code-for-requires : tie.Need-code-for-requires Inv-loop μ-loop
 code-for-requires c κs = (c .before .before .before .before .before .before .before .before .pre .wide, c .before .before .before .before .before .before .before .before .pre .long, turn-low (c .before .before .before .before .before .before .before .before .pre) (c .before .before .before .loop .inv) (omega arith))
 
--- src/pieces.rt:57:9
 put-requires : tie.Need-put-requires Inv-loop μ-loop
 put-requires c κs = λ n. turn-fits (c .before .before .before .before .before .before .before .before .before .before .pre) (c .before .before .before .before .before .loop .inv) (omega arith) (λ e. n (c .before .code-for .ensures ∙ e))
 
--- src/pieces.rt:59:28
 sub-opens : tie.Need-sub-opens Inv-loop μ-loop
 sub-opens c = omega arith
 
--- src/pieces.rt:59:19
 sub-opens-2 : tie.Need-sub-opens-2 Inv-loop μ-loop
 sub-opens-2 c = omega arith
 
--- src/pieces.rt:59:13
 mul-opens : tie.Need-mul-opens Inv-loop μ-loop
 mul-opens c = omega (arith, turn-there (c .before .before .before .before .before .before .before .before .before .before .before .before .before .before .pre) (c .before .before .before .before .before .before .before .before .before .loop .inv) (omega arith), c .before .before .before .before .before .before .before .before .before .loop .inv .length-opens)
 
--- src/pieces.rt:59:13
 slice-write-opens : tie.Need-slice-write-opens Inv-loop μ-loop
 slice-write-opens c = turn-there (c .before .before .before .before .before .before .before .before .before .before .before .before .before .before .pre) (c .before .before .before .before .before .before .before .before .before .loop .inv) (omega arith)
 
--- src/pieces.rt:60:13
 same-length : tie.Need-same-length Inv-loop μ-loop
 same-length c = turn-length (c .before .before .before .before .before .before .before .before .before .before .before .before .before .before .pre) (c .before .before .before .before .before .before .before .before .before .loop .inv) (omega arith) _ _ _ (c .before .before .before .before .before .code-for .ensures) (c .before .before .before .put .ensures .0) (c .before .before .before .put .ensures .1)
 
--- src/pieces.rt:60:13
 same-length-2 : tie.Need-same-length-2 Inv-loop μ-loop
 same-length-2 c = simp length-set (c .before .before .before .before .before .before .before .before .before .loop .inv .length-opens)
 
--- src/pieces.rt:60:13
 returns : tie.Need-returns Inv-loop μ-loop
 returns c = turn-ends (c .before .before .before .before .before .before .before .before .before .before .before .before .before .before .pre) (c .before .before .before .before .before .before .before .before .before .loop .inv) (omega arith) _ _ _ (c .before .before .before .before .before .code-for .ensures) (c .before .before .before .put .ensures .0) (c .before .before .before .put .ensures .1) (c .if1 .taken)
 
--- src/pieces.rt:62:9
 sub-d : tie.Need-sub-d Inv-loop μ-loop
 sub-d c = omega arith
 
--- src/pieces.rt:54:5
 loop-less : tie.Need-loop-less Inv-loop μ-loop
 loop-less c = omega arith
 
--- src/pieces.rt:54:5
 loop-again : tie.Need-loop-again Inv-loop μ-loop
 loop-again c = turn-again (c .before .before .before .before .before .before .before .before .before .before .before .before .before .before .pre) (c .before .before .before .before .before .before .before .before .before .loop .inv) (omega arith) _ _ _ (c .before .before .before .before .before .code-for .ensures) (c .before .before .before .put .ensures .0) (c .before .before .before .put .ensures .1) (c .if1 .left)
 
--- src/pieces.rt:47:1
 same-length-3 : tie.Need-same-length-3 Inv-loop μ-loop
 same-length-3 c = c .before .loop .inv .length-pieces
 
--- src/pieces.rt:47:1
 same-length-4 : tie.Need-same-length-4 Inv-loop μ-loop
 same-length-4 c = c .before .loop .inv .length-opens
 
--- src/pieces.rt:47:1
 returns-2 : tie.Need-returns-2 Inv-loop μ-loop
 returns-2 c = closes-over (omega arith) (c .before .loop .inv)
 

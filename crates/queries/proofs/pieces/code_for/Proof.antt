@@ -9,69 +9,53 @@ use Rattle.queries.proofs.pieces.code_for.Tie as tie
 use Rattle.queries.proofs.pieces.code_for.Reads as reads
 use Rattle.queries.proofs.pieces.code_for.Lts as lts
 
--- src/pieces.rt:16:9
 returns : tie.Need-returns
 returns c = let a = c .before .args in sym (code-none (now (a .sizes)) (now (a .starts)) (now (a .pieces)) (a .g) (c .if1 .taken))
 
--- src/pieces.rt:18:8
 mul-if2 : tie.Need-mul-if2
 mul-if2 c = search needs
 
--- src/pieces.rt:18:8
 shared-slice-read-if2 : tie.Need-shared-slice-read-if2
 shared-slice-read-if2 c = search needs
 
--- src/pieces.rt:19:9
 returns-2 : tie.Need-returns-2
 returns-2 c = let a = c .before .before .before .args in sym (code-empty (now (a .sizes)) (now (a .starts)) (now (a .pieces)) (a .g) (omega arith) (c .if2 .taken))
 
--- src/pieces.rt:21:13
 mul-s : tie.Need-mul-s
 mul-s c = search needs
 
--- src/pieces.rt:21:13
 shared-slice-read-s : tie.Need-shared-slice-read-s
 shared-slice-read-s c = search needs
 
--- src/pieces.rt:21:13
 cast-s : tie.Need-cast-s
 cast-s c = omega (arith, c .before .before .before .before .pre .2 (c .before .before .before .before .args .g))
 
--- src/pieces.rt:22:15
 add-if3 : tie.Need-add-if3
 add-if3 c = omega (arith, c .before .before .before .before .pre .2 (c .before .before .before .before .args .g))
 
--- src/pieces.rt:22:8
 mul-if3 : tie.Need-mul-if3
 mul-if3 c = omega (arith, c .before .before .before .before .pre .2 (c .before .before .before .before .args .g))
 
--- src/pieces.rt:22:8
 shared-slice-read-if3 : tie.Need-shared-slice-read-if3
 shared-slice-read-if3 c = omega (arith, c .before .before .before .before .before .pre .2 (c .before .before .before .before .before .args .g))
 
--- src/pieces.rt:23:16
 mul-result : tie.Need-mul-result
 mul-result c = omega (arith, c .before .before .before .before .before .before .pre .2 (c .before .before .before .before .before .before .args .g))
 
--- src/pieces.rt:23:16
 shared-slice-read-result : tie.Need-shared-slice-read-result
 shared-slice-read-result c = omega (arith, c .before .before .before .before .before .before .before .pre .2 (c .before .before .before .before .before .before .before .args .g))
 
--- src/pieces.rt:23:9
 returns-3 : tie.Need-returns-3
 returns-3 c =
     let a = c .before .before .before .before .before .before .before .args in
     sym (code-single (now (a .sizes)) (now (a .starts)) (now (a .pieces)) (a .g) (omega arith) (c .before .before .before .before .if2 .left) (c .before .if3 .taken))
 
--- src/pieces.rt:25:13
 cast-result : tie.Need-cast-result
 cast-result c = search needs
 
--- src/pieces.rt:25:5
 add-result : tie.Need-add-result
 add-result c = search needs
 
--- src/pieces.rt:11:1
 returns-4 : tie.Need-returns-4
 returns-4 c =
     let a = c .before .before .before .before .before .before .args in

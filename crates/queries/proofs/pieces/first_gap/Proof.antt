@@ -6,55 +6,42 @@ use Rattle.queries.proofs.pieces.first_gap.Reads as reads
 use Rattle.queries.proofs.pieces.first_gap.Lts as lts
 use Rattle.grammar.proofs.words.sort.Reads as sort-reads
 
--- src/pieces.rt:116:11
 sort-requires : tie.Need-sort-requires
 sort-requires c κs = search needs
 
--- src/pieces.rt:117:20
 enum-known-j : tie.Need-enum-known-j
 enum-known-j c = search needs
 
--- src/pieces.rt:117:31
 cast-result : tie.Need-cast-result
 cast-result c = search needs
 
--- src/pieces.rt:117:26
 mul-result : tie.Need-mul-result
 mul-result c = search needs
 
--- src/pieces.rt:118:31
 enum-told : tie.Need-enum-told
 enum-told c = search needs
 
--- src/pieces.rt:119:24
 enum-told-2 : tie.Need-enum-told-2
 enum-told-2 c = search needs
 
--- src/pieces.rt:120:24
 enum-told-3 : tie.Need-enum-told-3
 enum-told-3 c = search needs
 
--- src/pieces.rt:121:26
 enum-told-4 : tie.Need-enum-told-4
 enum-told-4 c = search needs
 
--- src/pieces.rt:113:1
 returns : tie.Need-returns
 returns c = rw (← c .before .before .before .sort .ensures, c .before .j .given .1)
 
--- src/pieces.rt:113:1
 returns-2 : tie.Need-returns-2
 returns-2 c = rw (← c .before .before .sort .ensures, c .enum-told .given .1)
 
--- src/pieces.rt:113:1
 returns-3 : tie.Need-returns-3
 returns-3 c = rw (← c .before .before .sort .ensures, c .enum-told2 .given .1)
 
--- src/pieces.rt:113:1
 returns-4 : tie.Need-returns-4
 returns-4 c = rw (← c .before .before .sort .ensures, c .enum-told3 .given .1)
 
--- src/pieces.rt:113:1
 returns-5 : tie.Need-returns-5
 returns-5 c = rw (← c .before .before .sort .ensures, c .enum-told4 .given .1)
 

@@ -8,27 +8,21 @@ use Rattle.queries.proofs.pieces.put.Tie as tie
 use Rattle.queries.proofs.pieces.put.Reads as reads
 use Rattle.queries.proofs.pieces.put.Lts as lts
 
--- src/pieces.rt:34:9
 returns : tie.Need-returns
 returns c = let e = eq-eqb (c .before .args .c) stop (c .if1 .taken) in (rw e, rw e)
 
--- src/pieces.rt:36:5
 mul-pieces : tie.Need-mul-pieces
 mul-pieces c = let h = c .before .pre (c .if1 .left) in omega arith
 
--- src/pieces.rt:36:5
 slice-write-pieces : tie.Need-slice-write-pieces
 slice-write-pieces c = c .before .pre (c .if1 .left)
 
--- src/pieces.rt:37:5
 add-result : tie.Need-add-result
 add-result c = let h = c .before .pre (c .if1 .left) in omega arith
 
--- src/pieces.rt:29:1
 same-length : tie.Need-same-length
 same-length c = search needs
 
--- src/pieces.rt:29:1
 returns-2 : tie.Need-returns-2
 returns-2 c = let e = ne-eqb (c .before .args .c) stop (c .if1 .left) in (rw e, rw e)
 

@@ -25,54 +25,42 @@ Inv-loop file n table r sizes pieces₀ starts₀ opens₀ top at count t₀ gap
 abbrev μ-loop : tie.MeasureT-loop
 μ-loop file n table r sizes pieces₀ starts₀ opens₀ top at count t₀ gap₀ depth₀ i₀ pieces starts opens t gap depth i = count - i
 
--- src/pieces.rt:158:9
 place-requires : tie.Need-place-requires Inv-loop μ-loop
 place-requires c κs = entry-inside (c .before .before .before .before .before .before .pre .0 .held) (c .before .before .before .before .before .before .args .r) (c .before .before .before .before .before .before .pre .1) .0
 
--- src/pieces.rt:159:9
 words-requires : tie.Need-words-requires Inv-loop μ-loop
 words-requires c κs = entry-inside (c .before .before .before .before .before .before .before .pre .0 .held) (c .before .before .before .before .before .before .before .args .r) (c .before .before .before .before .before .before .before .pre .1) .0
 
--- src/pieces.rt:161:19
 mul-gap : tie.Need-mul-gap Inv-loop μ-loop
 mul-gap c = omega (arith, c .before .before .before .before .before .before .before .before .pre .0 .held .few)
 
--- src/pieces.rt:164:19
 cast-starts : tie.Need-cast-starts Inv-loop μ-loop
 cast-starts c = omega (arith, c .before .before .before .before .before .before .before .before .pre .0 .fits)
 
--- src/pieces.rt:164:5
 mul-starts : tie.Need-mul-starts Inv-loop μ-loop
 mul-starts c = omega (arith, c .before .before .before .before .before .before .before .before .pre .0 .held .few)
 
--- src/pieces.rt:164:5
 slice-write-starts : tie.Need-slice-write-starts Inv-loop μ-loop
 slice-write-starts c = omega (arith, c .before .before .before .before .before .before .before .before .pre .0 .held .few, c .before .before .before .before .before .before .before .before .pre .0 .long)
 
--- src/pieces.rt:165:5
 loop-holds : tie.Need-loop-holds Inv-loop μ-loop
 loop-holds c =
     let s = c .before .before .before .before .before .before .before .before .pre in
     let b = body-next (s .0) (s .1) (s .2) (c .before .place .ensures) (c .words .ensures) in
     (b, first-turn b (s .0) _ refl)
 
--- src/pieces.rt:166:36
 mul-word-at : tie.Need-mul-word-at Inv-loop μ-loop
 mul-word-at c = omega (arith, place-fits (c .before .loop .inv .0))
 
--- src/pieces.rt:166:31
 add-word-at : tie.Need-add-word-at Inv-loop μ-loop
 add-word-at c = omega (arith, place-fits (c .before .loop .inv .0))
 
--- src/pieces.rt:166:13
 word-at-requires : tie.Need-word-at-requires Inv-loop μ-loop
 word-at-requires c κs = omega (arith, place-fits (c .before .loop .inv .0))
 
--- src/pieces.rt:167:13
 rank-of-requires : tie.Need-rank-of-requires Inv-loop μ-loop
 rank-of-requires c κs = let b = c .before .before .loop .inv .0 in omega (arith, b .held .long, b .held .few)
 
--- src/pieces.rt:168:13
 put-own-requires : tie.Need-put-own-requires Inv-loop μ-loop
 put-own-requires c κs =
     let l = c .before .before .before .before in
@@ -95,31 +83,24 @@ entry-fits c =
     let w = q .before .word-at in
     entry-small (x .0) (x .1) (omega arith) (w .result) (w .ensures) (q .rank-of .result) (q .rank-of .ensures) (c .first-gap .result) (c .first-gap .ensures)
 
--- src/pieces.rt:169:33
 add-opens : tie.Need-add-opens Inv-loop μ-loop
 add-opens c = omega (arith, rank-few (c .before .before .before .before .before .before .before))
 
--- src/pieces.rt:169:25
 mul-opens : tie.Need-mul-opens Inv-loop μ-loop
 mul-opens c = omega (arith, rank-few (c .before .before .before .before .before .before .before))
 
--- src/pieces.rt:169:42
 first-gap-requires : tie.Need-first-gap-requires Inv-loop μ-loop
 first-gap-requires c κs = search needs
 
--- src/pieces.rt:169:25
 add-opens-2 : tie.Need-add-opens-2 Inv-loop μ-loop
 add-opens-2 c = omega (arith, entry-fits c)
 
--- src/pieces.rt:169:24
 cast-opens : tie.Need-cast-opens Inv-loop μ-loop
 cast-opens c = omega (arith, entry-fits c)
 
--- src/pieces.rt:169:9
 mul-opens-2 : tie.Need-mul-opens-2 Inv-loop μ-loop
 mul-opens-2 c = let x = c .before .before .before .before .before .before .before .before .before .before .before .loop .inv in omega (arith, x .1 .deep, place-fits (x .0))
 
--- src/pieces.rt:169:9
 slice-write-opens : tie.Need-slice-write-opens Inv-loop μ-loop
 slice-write-opens c =
     let q = c .before .before .before .before .before .before .before .before in
@@ -127,11 +108,9 @@ slice-write-opens c =
     let w = q .before .word-at in
     open-fits (x .0) (x .1) (omega arith) (w .result) (w .ensures)
 
--- src/pieces.rt:172:61
 add-close : tie.Need-add-close Inv-loop μ-loop
 add-close c = let x = c .before .before .before .before .before .before .before .before .before .before .before .before .before .before .loop .inv in omega (arith, x .1 .deep, place-fits (x .0))
 
--- src/pieces.rt:172:13
 close-requires : tie.Need-close-requires Inv-loop μ-loop
 close-requires c κs =
     let q = c .before .before .before .before .before .before .before .before .before .before .before in
@@ -142,15 +121,12 @@ close-requires c κs =
     close-asks (x .0) (x .1) (omega arith) (w .result) (w .ensures) (q .rank-of .result) (q .rank-of .ensures) (g .result) (g .ensures) _ _ (o .result .top) (o .result .gap)
     (o .ensures .0 .0) (o .ensures .0 .1) (o .ensures .1 .0) (o .ensures .1 .1)
 
--- src/pieces.rt:175:9
 add-i : tie.Need-add-i Inv-loop μ-loop
 add-i c = omega (arith, place-fits (c .before .before .before .before .before .before .before .before .before .before .before .before .before .before .before .before .before .before .before .loop .inv .0))
 
--- src/pieces.rt:165:5
 loop-less : tie.Need-loop-less Inv-loop μ-loop
 loop-less c = omega arith
 
--- src/pieces.rt:165:5
 loop-again : tie.Need-loop-again Inv-loop μ-loop
 loop-again c =
     let q = c .before .before .before .before .before .before .before .before .before .before .before .before .before .before .before .before in
@@ -163,31 +139,24 @@ loop-again c =
           (o .ensures .0 .0) (o .ensures .0 .1) (o .ensures .1 .0) (o .ensures .1 .1) _ _ _ _ (c .before .before .before .before .close .ensures),
     )
 
--- src/pieces.rt:177:5
 mul-pieces : tie.Need-mul-pieces Inv-loop μ-loop
 mul-pieces c = let x = c .before .loop .inv in omega (arith, stop-fits (x .0) (x .1) (omega arith), x .1 .pieces-long)
 
--- src/pieces.rt:177:5
 slice-write-pieces : tie.Need-slice-write-pieces Inv-loop μ-loop
 slice-write-pieces c = let x = c .before .loop .inv in stop-fits (x .0) (x .1) (omega arith)
 
--- src/pieces.rt:178:5
 add-result : tie.Need-add-result Inv-loop μ-loop
 add-result c = let x = c .before .loop .inv in omega (arith, stop-fits (x .0) (x .1) (omega arith), x .1 .pieces-long)
 
--- src/pieces.rt:144:1
 same-length : tie.Need-same-length Inv-loop μ-loop
 same-length c = simp length-set (c .before .loop .inv .1 .pieces-long ∙ sym (c .before .before .before .before .before .before .before .before .before .before .pre .0 .pieces-long))
 
--- src/pieces.rt:144:1
 same-length-2 : tie.Need-same-length-2 Inv-loop μ-loop
 same-length-2 c = c .before .loop .inv .1 .starts-long ∙ sym (c .before .before .before .before .before .before .before .before .before .before .pre .0 .long)
 
--- src/pieces.rt:144:1
 same-length-3 : tie.Need-same-length-3 Inv-loop μ-loop
 same-length-3 c = c .before .loop .inv .1 .opens-long
 
--- src/pieces.rt:144:1
 returns : tie.Need-returns Inv-loop μ-loop
 returns c = let x = c .before .loop .inv in rule-over (x .0) (x .1) (omega arith)
 

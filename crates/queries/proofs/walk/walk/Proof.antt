@@ -18,167 +18,126 @@ Inv-loop pieces starts sizes n p out₀ frames₀ d₀ i₀ skip₀ o₀ out fra
 abbrev μ-loop : tie.MeasureT-loop
 μ-loop pieces starts sizes n p out₀ frames₀ d₀ i₀ skip₀ o₀ out frames d i skip o = walkCost pieces starts n frames i d
 
--- src/walk.rt:15:29
 sub-i : tie.Need-sub-i Inv-loop μ-loop
 sub-i c = omega arith
 
--- src/walk.rt:15:24
 mul-i : tie.Need-mul-i Inv-loop μ-loop
 mul-i c = omega arith
 
--- src/walk.rt:15:17
 mul-i-2 : tie.Need-mul-i-2 Inv-loop μ-loop
 mul-i-2 c = omega arith
 
--- src/walk.rt:15:17
 shared-slice-read-i : tie.Need-shared-slice-read-i Inv-loop μ-loop
 shared-slice-read-i c = omega arith
 
--- src/walk.rt:15:17
 cast-i : tie.Need-cast-i Inv-loop μ-loop
 cast-i c = omega (arith, c .shared-slice-known .given (5 * (c .before .args .n - 1)))
 
--- src/walk.rt:18:5
 loop-holds : tie.Need-loop-holds Inv-loop μ-loop
 loop-holds c = walk-start (c .before .pre) _ _ refl refl
 
--- src/walk.rt:19:17
 mul-c : tie.Need-mul-c Inv-loop μ-loop
 mul-c c = let W = c .before .before .before .pre in let x = c .before .loop .inv in let h : c .before .loop .o < length (now (c .before .before .before .args .out)) = omega (arith, x .out-length) in omega (arith, turn-place W x h, W .short)
 
--- src/walk.rt:19:17
 shared-slice-read-c : tie.Need-shared-slice-read-c Inv-loop μ-loop
 shared-slice-read-c c = let W = c .before .before .before .before .pre in let x = c .before .before .loop .inv in let h : c .before .before .loop .o < length (now (c .before .before .before .before .args .out)) = omega (arith, x .out-length) in turn-place W x h
 
--- src/walk.rt:21:13
 add-i : tie.Need-add-i Inv-loop μ-loop
 add-i c = let W = c .before .before .before .before .before .pre in let x = c .before .before .before .loop .inv in let h : c .before .before .before .loop .o < length (now (c .before .before .before .before .before .args .out)) = omega (arith, x .out-length) in omega (arith, turn-place W x h, W .short)
 
--- src/walk.rt:23:17
 mul-out : tie.Need-mul-out Inv-loop μ-loop
 mul-out c = omega arith
 
--- src/walk.rt:23:17
 slice-write-out : tie.Need-slice-write-out Inv-loop μ-loop
 slice-write-out c = omega arith
 
--- src/walk.rt:24:17
 add-o : tie.Need-add-o Inv-loop μ-loop
 add-o c = omega arith
 
--- src/walk.rt:18:5
 loop-less : tie.Need-loop-less Inv-loop μ-loop
 loop-less c = let W = c .before .before .before .before .before .before .pre in let x = c .before .before .before .before .loop .inv in let h : c .before .before .before .before .loop .o < length (now (c .before .before .before .before .before .before .args .out)) = omega (arith, x .out-length) in less-on W x h (λ e. omega arith)
 
--- src/walk.rt:18:5
 loop-again : tie.Need-loop-again Inv-loop μ-loop
 loop-again c = let W = c .before .before .before .before .before .before .pre in let x = c .before .before .before .before .loop .inv in let h : c .before .before .before .before .loop .o < length (now (c .before .before .before .before .before .before .args .out)) = omega (arith, x .out-length) in turn-word W x h (c .before .if1 .taken) (c .if2 .taken)
 
--- src/walk.rt:26:17
 sub-skip : tie.Need-sub-skip Inv-loop μ-loop
 sub-skip c = omega arith
 
--- src/walk.rt:18:5
 loop-less-2 : tie.Need-loop-less-2 Inv-loop μ-loop
 loop-less-2 c = let W = c .before .before .before .before .before .before .pre in let x = c .before .before .before .before .loop .inv in let h : c .before .before .before .before .loop .o < length (now (c .before .before .before .before .before .before .args .out)) = omega (arith, x .out-length) in less-on W x h (λ e. omega arith)
 
--- src/walk.rt:18:5
 loop-again-2 : tie.Need-loop-again-2 Inv-loop μ-loop
 loop-again-2 c = let W = c .before .before .before .before .before .before .pre in let x = c .before .before .before .before .loop .inv in let h : c .before .before .before .before .loop .o < length (now (c .before .before .before .before .before .before .args .out)) = omega (arith, x .out-length) in turn-past W x h (c .before .if1 .taken) (c .if2 .left)
 
--- src/walk.rt:29:13
 sub-d : tie.Need-sub-d Inv-loop μ-loop
 sub-d c = let W = c .before .before .before .before .before .before .pre in let x = c .before .before .before .before .loop .inv in let h : c .before .before .before .before .loop .o < length (now (c .before .before .before .before .before .before .args .out)) = omega (arith, x .out-length) in turn-deep W x h (c .if3 .taken)
 
--- src/walk.rt:30:17
 mul-i-3 : tie.Need-mul-i-3 Inv-loop μ-loop
 mul-i-3 c = let W = c .before .before .before .before .before .before .pre in let x = c .before .before .before .before .loop .inv in let h : c .before .before .before .before .loop .o < length (now (c .before .before .before .before .before .before .args .out)) = omega (arith, x .out-length) in omega (arith, x .deep, W .few-rules)
 
--- src/walk.rt:30:17
 array-read-i : tie.Need-array-read-i Inv-loop μ-loop
 array-read-i c = let W = c .before .before .before .before .before .before .pre in let x = c .before .before .before .before .loop .inv in let h : c .before .before .before .before .loop .o < length (now (c .before .before .before .before .before .before .args .out)) = omega (arith, x .out-length) in omega (arith, x .deep, W .few-rules, turn-deep W x h (c .if3 .taken))
 
--- src/walk.rt:30:17
 cast-i-2 : tie.Need-cast-i-2 Inv-loop μ-loop
 cast-i-2 c = let W = c .before .before .before .before .before .before .pre in let x = c .before .before .before .before .loop .inv in let h : c .before .before .before .before .loop .o < length (now (c .before .before .before .before .before .before .args .out)) = omega (arith, x .out-length) in omega (arith, turn-place W (turn-pop W x h (c .if3 .taken)) h, W .short)
 
--- src/walk.rt:18:5
 loop-less-3 : tie.Need-loop-less-3 Inv-loop μ-loop
 loop-less-3 c = let W = c .before .before .before .before .before .before .pre in let x = c .before .before .before .before .loop .inv in let h : c .before .before .before .before .loop .o < length (now (c .before .before .before .before .before .before .args .out)) = omega (arith, x .out-length) in less-pop W x h (c .if3 .taken)
 
--- src/walk.rt:18:5
 loop-again-3 : tie.Need-loop-again-3 Inv-loop μ-loop
 loop-again-3 c = let W = c .before .before .before .before .before .before .pre in let x = c .before .before .before .before .loop .inv in let h : c .before .before .before .before .loop .o < length (now (c .before .before .before .before .before .before .args .out)) = omega (arith, x .out-length) in turn-pop W x h (c .if3 .taken)
 
--- src/walk.rt:32:21
 cast-g : tie.Need-cast-g Inv-loop μ-loop
 cast-g c = let W = c .before .before .before .before .before .before .pre in let x = c .before .before .before .before .loop .inv in let h : c .before .before .before .before .loop .o < length (now (c .before .before .before .before .before .before .args .out)) = omega (arith, x .out-length) in let g = turn-gap W x h (c .before .if1 .left) (c .if3 .left) in omega (arith, W .few-rules)
 
--- src/walk.rt:33:21
 mul-s : tie.Need-mul-s Inv-loop μ-loop
 mul-s c = let W = c .before .before .before .before .before .before .pre in let x = c .before .before .before .before .loop .inv in let h : c .before .before .before .before .loop .o < length (now (c .before .before .before .before .before .before .args .out)) = omega (arith, x .out-length) in let g = turn-gap W x h (c .before .if1 .left) (c .if3 .left) in omega (arith, W .few-rules)
 
--- src/walk.rt:33:21
 shared-slice-read-s : tie.Need-shared-slice-read-s Inv-loop μ-loop
 shared-slice-read-s c = let W = c .before .before .before .before .before .before .before .pre in let x = c .before .before .before .before .before .loop .inv in let h : c .before .before .before .before .before .loop .o < length (now (c .before .before .before .before .before .before .before .args .out)) = omega (arith, x .out-length) in let g = turn-gap W x h (c .before .before .if1 .left) (c .before .if3 .left) in omega arith
 
--- src/walk.rt:36:17
 add-i-2 : tie.Need-add-i-2 Inv-loop μ-loop
 add-i-2 c = let W = c .before .before .before .before .before .before .before .before .pre in let x = c .before .before .before .before .before .before .loop .inv in let h : c .before .before .before .before .before .before .loop .o < length (now (c .before .before .before .before .before .before .before .before .args .out)) = omega (arith, x .out-length) in omega (arith, turn-place W x h, W .short)
 
--- src/walk.rt:18:5
 loop-less-4 : tie.Need-loop-less-4 Inv-loop μ-loop
 loop-less-4 c = let W = c .before .before .before .before .before .before .before .before .pre in let x = c .before .before .before .before .before .before .loop .inv in let h : c .before .before .before .before .before .before .loop .o < length (now (c .before .before .before .before .before .before .before .before .args .out)) = omega (arith, x .out-length) in less-on W x h (c .before .before .if3 .left)
 
--- src/walk.rt:18:5
 loop-again-4 : tie.Need-loop-again-4 Inv-loop μ-loop
 loop-again-4 c = let W = c .before .before .before .before .before .before .before .before .pre in let x = c .before .before .before .before .before .before .loop .inv in let h : c .before .before .before .before .before .before .loop .o < length (now (c .before .before .before .before .before .before .before .before .args .out)) = omega (arith, x .out-length) in turn-over W x h (c .before .before .before .if1 .left) (c .before .before .if3 .left) (c .if4 .taken)
 
--- src/walk.rt:38:30
 add-frames : tie.Need-add-frames Inv-loop μ-loop
 add-frames c = let W = c .before .before .before .before .before .before .before .before .pre in let x = c .before .before .before .before .before .before .loop .inv in let h : c .before .before .before .before .before .before .loop .o < length (now (c .before .before .before .before .before .before .before .before .args .out)) = omega (arith, x .out-length) in omega (arith, turn-place W x h, W .short)
 
--- src/walk.rt:38:29
 cast-frames : tie.Need-cast-frames Inv-loop μ-loop
 cast-frames c = let W = c .before .before .before .before .before .before .before .before .pre in let x = c .before .before .before .before .before .before .loop .inv in let h : c .before .before .before .before .before .before .loop .o < length (now (c .before .before .before .before .before .before .before .before .args .out)) = omega (arith, x .out-length) in omega (arith, turn-place W x h, W .short)
 
--- src/walk.rt:38:17
 mul-frames : tie.Need-mul-frames Inv-loop μ-loop
 mul-frames c = let W = c .before .before .before .before .before .before .before .before .pre in let x = c .before .before .before .before .before .before .loop .inv in let h : c .before .before .before .before .before .before .loop .o < length (now (c .before .before .before .before .before .before .before .before .args .out)) = omega (arith, x .out-length) in let g = turn-gap W x h (c .before .before .before .if1 .left) (c .before .before .if3 .left) in omega (arith, W .few-rules)
 
--- src/walk.rt:38:17
 array-write-frames : tie.Need-array-write-frames Inv-loop μ-loop
 array-write-frames c = let W = c .before .before .before .before .before .before .before .before .pre in let x = c .before .before .before .before .before .before .loop .inv in let h : c .before .before .before .before .before .before .loop .o < length (now (c .before .before .before .before .before .before .before .before .args .out)) = omega (arith, x .out-length) in let g = turn-gap W x h (c .before .before .before .if1 .left) (c .before .before .if3 .left) in omega (arith, W .few-rules)
 
--- src/walk.rt:39:17
 add-d : tie.Need-add-d Inv-loop μ-loop
 add-d c = let W = c .before .before .before .before .before .before .before .before .pre in let x = c .before .before .before .before .before .before .loop .inv in let h : c .before .before .before .before .before .before .loop .o < length (now (c .before .before .before .before .before .before .before .before .args .out)) = omega (arith, x .out-length) in let g = turn-gap W x h (c .before .before .before .if1 .left) (c .before .before .if3 .left) in omega (arith, W .few-rules)
 
--- src/walk.rt:40:21
 mul-i-4 : tie.Need-mul-i-4 Inv-loop μ-loop
 mul-i-4 c = let W = c .before .before .before .before .before .before .before .before .pre in let x = c .before .before .before .before .before .before .loop .inv in let h : c .before .before .before .before .before .before .loop .o < length (now (c .before .before .before .before .before .before .before .before .args .out)) = omega (arith, x .out-length) in let g = turn-gap W x h (c .before .before .before .if1 .left) (c .before .before .if3 .left) in omega (arith, W .few-rules)
 
--- src/walk.rt:40:21
 shared-slice-read-i-2 : tie.Need-shared-slice-read-i-2 Inv-loop μ-loop
 shared-slice-read-i-2 c = let W = c .before .before .before .before .before .before .before .before .before .pre in let x = c .before .before .before .before .before .before .before .loop .inv in let h : c .before .before .before .before .before .before .before .loop .o < length (now (c .before .before .before .before .before .before .before .before .before .args .out)) = omega (arith, x .out-length) in let g = turn-gap W x h (c .before .before .before .before .if1 .left) (c .before .before .before .if3 .left) in omega (arith, W .few-rules, W .long)
 
--- src/walk.rt:40:21
 cast-i-3 : tie.Need-cast-i-3 Inv-loop μ-loop
 cast-i-3 c = omega (arith, c .shared-slice-known4 .given (getD (now (c .before .before .before .before .before .before .before .before .before .args .pieces)) (c .before .before .before .before .before .before .before .loop .i) 0 - 32768))
 
--- src/walk.rt:18:5
 loop-less-5 : tie.Need-loop-less-5 Inv-loop μ-loop
 loop-less-5 c = let W = c .before .before .before .before .before .before .before .before .before .pre in let x = c .before .before .before .before .before .before .before .loop .inv in let h : c .before .before .before .before .before .before .before .loop .o < length (now (c .before .before .before .before .before .before .before .before .before .args .out)) = omega (arith, x .out-length) in less-into W x h (c .before .before .before .before .if1 .left) (c .before .before .before .if3 .left)
 
--- src/walk.rt:18:5
 loop-again-5 : tie.Need-loop-again-5 Inv-loop μ-loop
 loop-again-5 c = let W = c .before .before .before .before .before .before .before .before .before .pre in let x = c .before .before .before .before .before .before .before .loop .inv in let h : c .before .before .before .before .before .before .before .loop .o < length (now (c .before .before .before .before .before .before .before .before .before .args .out)) = omega (arith, x .out-length) in turn-into W x h (c .before .before .before .before .if1 .left) (c .before .before .before .if3 .left) (c .before .if4 .left)
 
--- src/walk.rt:8:1
 same-length : tie.Need-same-length Inv-loop μ-loop
 same-length c = c .before .loop .inv .out-length
 
--- src/walk.rt:8:1
 returns : tie.Need-returns Inv-loop μ-loop
 returns c = (c .before .loop .inv .out-length, walk-end (c .before .before .before .pre) (c .before .loop .inv) (omega (arith, c .before .loop .inv .out-length)))
 

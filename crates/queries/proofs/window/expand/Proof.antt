@@ -10,39 +10,30 @@ use Rattle.queries.proofs.window.expand.Lts as lts
 use Rattle.queries.proofs.pieces.build.Reads as build-reads
 use Rattle.queries.proofs.walk.walk.Reads as walk-reads
 
--- src/window.rt:78:34
 slice-aggregate-build : tie.Need-slice-aggregate-build
 slice-aggregate-build c = search needs
 
--- src/window.rt:78:47
 slice-aggregate-build-2 : tie.Need-slice-aggregate-build-2
 slice-aggregate-build-2 c = search needs
 
--- src/window.rt:78:60
 slice-aggregate-build-3 : tie.Need-slice-aggregate-build-3
 slice-aggregate-build-3 c = search needs
 
--- src/window.rt:78:5
 build-requires : tie.Need-build-requires
 build-requires c κs = (nothing-spelt (c .before .before .before .before .before .before .before .pre .0) _ _ refl refl, omega arith)
 
--- src/window.rt:79:10
 slice-aggregate-walk : tie.Need-slice-aggregate-walk
 slice-aggregate-walk c = search needs
 
--- src/window.rt:79:19
 slice-aggregate-walk-2 : tie.Need-slice-aggregate-walk-2
 slice-aggregate-walk-2 c = search needs
 
--- src/window.rt:79:5
 walk-requires : tie.Need-walk-requires
 walk-requires c κs = walkable (c .before .before .before .before .before .before .before .before .before .before .before .before .before .before .pre .0) (c .before .before .before .before .before .before .build .ensures) _ _ (c .before .before .before .before .before .before .before .before .before .before .before .before .before .before .pre .1)
 
--- src/window.rt:71:1
 same-length : tie.Need-same-length
 same-length c = search needs
 
--- src/window.rt:71:1
 returns : tie.Need-returns
 returns c =
     window-words (c .before .before .before .before .before .before .before .before .before .before .before .before .before .before .before .before .before .pre .0) (c .before .before .before .before .before .before .before .before .before .build .ensures) (c .before .before .before .before .before .before .before .before .before .before .before .before .before .before .before .before .before .args .p) _ _ (c .before .before .walk .ensures .0) (c .before .before .walk .ensures .1)

@@ -22,31 +22,24 @@ use Rattle.queries.proofs.window.expand.Reads as expand-reads
 use Rattle.queries.proofs.window.outside.Reads as outside-reads
 use Rattle.queries.proofs.window.refuse.Reads as refuse-reads
 
--- src/window.rt:28:24
 slice-aggregate-read : tie.Need-slice-aggregate-read
 slice-aggregate-read c = search needs
 
--- src/window.rt:28:36
 slice-aggregate-read-2 : tie.Need-slice-aggregate-read-2
 slice-aggregate-read-2 c = search needs
 
--- src/window.rt:28:9
 read-requires : tie.Need-read-requires
 read-requires c κs = search needs
 
--- src/window.rt:31:20
 enum-told : tie.Need-enum-told
 enum-told c = search needs
 
--- src/window.rt:31:13
 refuse-requires : tie.Need-refuse-requires
 refuse-requires c κs = search needs
 
--- src/window.rt:32:13
 answer-of-requires : tie.Need-answer-of-requires
 answer-of-requires c κs = search needs
 
--- src/window.rt:34:24
 enum-known-r : tie.Need-enum-known-r
 enum-known-r c = search needs
 
@@ -62,90 +55,71 @@ denoted c =
 counted : (c : tie.After-first-gaps) → c .first-gaps .result ≡ nodes (rulesOf (now (c .before .before .before .before .before .before .before .before .before .before .before .before .args .file)))
 counted c = c .first-gaps .ensures .0 ∙ nodes-counted (named (denoted (c .before .before .before)))
 
--- src/window.rt:35:36
 slice-aggregate-first-gaps : tie.Need-slice-aggregate-first-gaps
 slice-aggregate-first-gaps c = search needs
 
--- src/window.rt:35:44
 sub-first-gaps : tie.Need-sub-first-gaps
 sub-first-gaps c = denoted (c .before .before) .some
 
--- src/window.rt:35:17
 first-gaps-requires : tie.Need-first-gaps-requires
 first-gaps-requires c κs =
     let d = denoted (c .before .before) in
     (omega (arith, d .few, d .some, d .longer), omega arith, d .small)
 
--- src/window.rt:38:17
 refuse-requires-2 : tie.Need-refuse-requires-2
 refuse-requires-2 c κs = search needs
 
--- src/window.rt:39:17
 outside-requires : tie.Need-outside-requires
 outside-requires c κs = search needs
 
--- src/window.rt:39:17
 same-length : tie.Need-same-length
 same-length c = search needs
 
--- src/window.rt:39:17
 returns : tie.Need-returns
 returns c =
     let k = c .before .before .before .before .before .before in
     answer-outside (denoted (k .before .before .before)) (k .before .before .before .before .before .before .before .before .before .before .before .before .args .p) _ (omega (arith, counted k)) (answerIs (c .outside .result)) (c .outside .ensures) _ (c .before .before .before .refuse2 .ensures)
 
--- src/window.rt:42:17
 refuse-requires-3 : tie.Need-refuse-requires-3
 refuse-requires-3 c κs = search needs
 
--- src/window.rt:43:17
 outside-requires-2 : tie.Need-outside-requires-2
 outside-requires-2 c κs = search needs
 
--- src/window.rt:43:17
 same-length-2 : tie.Need-same-length-2
 same-length-2 c = search needs
 
--- src/window.rt:43:17
 returns-2 : tie.Need-returns-2
 returns-2 c =
     let k = c .before .before .before .before .before .before .before in
     answer-outside (denoted (k .before .before .before)) (k .before .before .before .before .before .before .before .before .before .before .before .before .args .p) _ (omega (arith, counted k)) (answerIs (c .outside2 .result)) (c .outside2 .ensures) _ (c .before .before .before .refuse3 .ensures)
 
--- src/window.rt:45:29
 slice-aggregate-expand : tie.Need-slice-aggregate-expand
 slice-aggregate-expand c = search needs
 
--- src/window.rt:45:37
 slice-aggregate-expand-2 : tie.Need-slice-aggregate-expand-2
 slice-aggregate-expand-2 c = search needs
 
--- src/window.rt:45:13
 expand-requires : tie.Need-expand-requires
 expand-requires c κs =
     let k = c .before .before .before .before .before in
     (denoted (k .before .before .before), omega (arith, counted k))
 
--- src/window.rt:46:13
 answer-of-requires-2 : tie.Need-answer-of-requires-2
 answer-of-requires-2 c κs = search needs
 
--- src/window.rt:22:1
 same-length-3 : tie.Need-same-length-3
 same-length-3 c = search needs
 
--- src/window.rt:22:1
 returns-3 : tie.Need-returns-3
 returns-3 c =
     let s = c .before .before .before .before .before .before .before .before .before .before .before .before .before .before in
     let r = c .before .before .before .before .before .before .before .before .before .read in
     answer-refused (now (s .args .file)) (s .args .p) _ (readingIs (r .result)) _ _ (ap readingIs (c .before .before .before .before .before .enum-told .given .1)) (r .ensures .reading) (answerIs (c .answer-of .result)) (c .answer-of .ensures) _ (c .before .before .before .refuse .ensures)
 
--- src/window.rt:22:1
 same-length-4 : tie.Need-same-length-4
 same-length-4 c = search needs
 
--- src/window.rt:22:1
 returns-4 : tie.Need-returns-4
 returns-4 c =
     let k = c .before .before .before .before .before .before .before .before .before in

@@ -1,3 +1,4 @@
+-- `text::refusals::number` meets its contract, row by row.
 use borrow.Author.Needs.{needs}
 use Rattle.text.proofs.refusals.number.Statement.{statement}
 use Rattle.text.proofs.refusals.number.Tie as tie
