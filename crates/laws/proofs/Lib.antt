@@ -16,6 +16,7 @@ pub mod Work
 pub mod Apart
 pub mod Spans
 pub mod Edited
+pub mod Published
 pub mod Several
 pub mod Runs
 -- Words and lists.
