@@ -10,6 +10,7 @@ use lib.Dec.{T, leb, ltb, eqb, ltb→lt, lt→ltb, eqb→eq, eqb-refl}
 use mir.Facts.{or-yes, and-yes, yes-and}
 use Rattle.model.specs.Trees.{Rule, ranksOf}
 use Rattle.model.specs.Rounds.{Digram, joins, digrams, digramRank, occurrences, eligible, smaller, Counted, better, bestOf, choiceAmong, choice}
+use Rattle.laws.specs.Steps.{countedIn}
 use Rattle.laws.proofs.Digrams.{occurs-there}
 use Rattle.laws.proofs.Lists.{on-cons}
 use Rattle.laws.proofs.Tests.{or-right, or-left}
@@ -108,10 +109,6 @@ better-total x y p q =
     let b = less-neither (d .b) (e .b) (i .1) (i .2) in
     λ j. record { digram = record { a = a .0 j; i = i .0 j; b = b j }; count = sym (c .0) j }
 
--- a digram with its count in the rules
-abbrev pub countedIn : List Rule → Digram → Counted
-countedIn rules d = record { digram = d; count = occurrences (ranksOf rules) d rules }
-
 -- what the choice among some digrams is
 pub record Best (rules : List Rule) (ds : List Digram) (x : Counted) : Type 0 where
   pub stands : List·Memᴰ (x .digram) ds
@@ -176,7 +173,7 @@ pub choice-none : (rules : List Rule) → choice rules ≡ none → NoneEligible
 choice-none rules e = subst (ChoiceIs rules (digrams (ranksOf rules) rules)) e (choiceAmong-is rules (digrams (ranksOf rules) rules))
 
 -- What the choice is determines it: whoever finds such a digram, or that there is none, has found the choice.
-counted-path : (rules : List Rule) (x : Counted) → x .count ≡ occurrences (ranksOf rules) (x .digram) rules → countedIn rules (x .digram) ≡ x
+pub counted-path : (rules : List Rule) (x : Counted) → x .count ≡ occurrences (ranksOf rules) (x .digram) rules → countedIn rules (x .digram) ≡ x
 counted-path rules x e = λ j. record { digram = x .digram; count = sym e j }
 
 best-unique : (rules : List Rule) (ds : List Digram) (x y : Counted) → Best rules ds x → Best rules ds y → x ≡ y

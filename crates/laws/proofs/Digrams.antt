@@ -12,16 +12,10 @@ use Rattle.model.specs.Words.{Class, classOf, whenCall, rankOf}
 use Rattle.model.specs.Trees.{Rule, roots, isLegal}
 use Rattle.model.specs.Rounds.{Digram, joins, children, digramsOver, digramsIn, digrams, occurrences, newNumber, partOf, starts, marksBelow, isTaken, parts, uppers}
 use Rattle.laws.specs.Formed.{bodyAt}
+use Rattle.laws.specs.Steps.{IsDigram}
 use Rattle.laws.proofs.Lists.{mem-take, mem-drop}
 
--- "A digram (a, i, b) is a word a with i-th child b; neither is ⊥ or a parameter."
-pub record IsDigram (ranks : List ℕ) (d : Digram) : Type 0 where
-  pub joins-a : T (joins (d .a))
-  pub joins-b : T (joins (d .b))
-  pub low : 1 ≤ d .i
-  pub high : d .i ≤ rankOf ranks (d .a)
-
--- it stands in a body
+-- a digram stands in a body
 pub record Stands (ranks body : List ℕ) (d : Digram) : Type 0 where
   pub is : IsDigram ranks d
   pub a-there : List·Memᴰ (d .a) body

@@ -62,4 +62,5 @@ pub mod RoundWords
 pub mod Round
 pub mod RoundFormed
 pub mod Rounding
+pub mod Steps
 pub mod RoundKeeps

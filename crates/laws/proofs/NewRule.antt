@@ -17,7 +17,7 @@ use Rattle.laws.proofs.Folds.{fold-append, height-append, fits-append}
 use Rattle.laws.proofs.Fills.{those-append, those-in, those-out, parameter-is, length-parametersFrom}
 use Rattle.laws.proofs.Expansion.{fill-join, fill-grow}
 use Rattle.laws.proofs.Lists.{map-take, map-drop}
-use Rattle.laws.proofs.Digrams.{IsDigram}
+use Rattle.laws.specs.Steps.{IsDigram}
 
 pub joins-other : (w : ℕ) → T (joins w) → isParameter w ≡ false
 joins-other w t = go (classOf w) refl

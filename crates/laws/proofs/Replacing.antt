@@ -13,7 +13,8 @@ use Rattle.laws.specs.Formed.{Fits, Tree, stackOf}
 use Rattle.laws.proofs.Folds.{length-fold, map-fold}
 use Rattle.laws.proofs.Classes.{class-of-call}
 use Rattle.laws.proofs.Recalled.{Calls, calls-head, calls-tail, rank-recalled, grow-recalled}
-use Rattle.laws.proofs.Digrams.{starts-is, IsDigram}
+use Rattle.laws.specs.Steps.{IsDigram}
+use Rattle.laws.proofs.Digrams.{starts-is}
 use Rattle.laws.proofs.NewRule.{fill-new}
 use Rattle.laws.proofs.Tests.{true-T}
 

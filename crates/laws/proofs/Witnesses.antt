@@ -21,10 +21,12 @@ use Rattle.laws.specs.Conditions.{answerIn}
 use Rattle.laws.specs.Formed.{formed}
 use Rattle.laws.specs.Orders.{Suits, Reordered, keep, swap, twice}
 use Rattle.laws.specs.Runs.{Call, asked, AllAccepted, lastFile}
-use Rattle.laws.specs.Work.{Passes, start, round, bodyWords, UpdateWords}
+use Rattle.laws.specs.Steps.{Passes, start, round}
+use Rattle.laws.specs.Work.{bodyWords, UpdateWords}
 use Rattle.laws.specs.Returned.{UpdateReturns, PackReturns, fileOf}
 use Rattle.laws.proofs.Written.{Below, write-bytes}
 use Rattle.laws.proofs.Returned.{single}
+use Rattle.laws.proofs.Steps.{choice-unbeaten}
 use Rattle.laws.proofs.Work.{taken-short, update-words, pack-words}
 use Rattle.laws.proofs.Demands.{demand-2, demand-2-packing, demand-2-program, demand-3}
 
@@ -117,9 +119,9 @@ pub chosen-20 : choice (single siblings) ≡ some (record { digram = record { a 
 unfolding classOf
 chosen-20 = refl
 
-pub passes-20 : Passes (single siblings) (packed siblings .rules)
+pub passes-20 : Passes (single siblings) 1 (packed siblings .rules)
 unfolding classOf packed repacked
-passes-20 = round {rules = single siblings} (omega arith) chosen-20 start
+passes-20 = round {rules = single siblings} (omega arith) (choice-unbeaten (single siblings) _ chosen-20) start
 
 -- What the demands and the law of the work area then say of them.
 pub updated-G : UpdateReturns G renaming (update 64 32768 G renaming)
@@ -141,4 +143,4 @@ pub words-G : UpdateWords rules inserting
 words-G = update-words rules formed-G (taken-short G rules bytes-G reads-G) inserting (suits-G .0) (suits-G .1)
 
 pub words-20 : bodyWords (packed siblings .rules) ≤ 16384
-words-20 = pack-words siblings allowed-20 (packed siblings .rules) passes-20
+words-20 = pack-words siblings allowed-20 1 (packed siblings .rules) passes-20

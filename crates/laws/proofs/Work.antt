@@ -15,12 +15,13 @@ use Rattle.model.specs.Refusals.{taken}
 use Rattle.model.specs.File.{read, write, largestFile}
 use Rattle.model.specs.Edits.{Edit, rename, insert, delete, Update, added}
 use Rattle.model.specs.Opening.{openedAt}
-use Rattle.model.specs.Rounds.{oneRound}
+use Rattle.model.specs.Rounds.{choice, oneRound}
 use Rattle.model.specs.Answers.{withStart, editedStart, treeAllowed, fragmentAllowed, longestFragment, longestTree}
 use Rattle.laws.specs.Formed.{formed}
 use Rattle.laws.specs.Orders.{Suits}
 use Rattle.laws.specs.Conditions.{readConditions}
-use Rattle.laws.specs.Work.{bodyWords, Passes, start, round, UpdateWords}
+use Rattle.laws.specs.Steps.{Passes, start, round, countedIn}
+use Rattle.laws.specs.Work.{bodyWords, UpdateWords}
 use Rattle.laws.proofs.Grammar.{formed-parts}
 use Rattle.laws.proofs.Refusals.{read-taken-iff}
 use Rattle.laws.proofs.Written.{Below, bytesFor, write-length}
@@ -29,6 +30,7 @@ use Rattle.laws.proofs.Opening.{opened-short}
 use Rattle.laws.proofs.Dropping.{dropped-words}
 use Rattle.laws.proofs.Round.{round-rules}
 use Rattle.laws.proofs.Rounding.{choice-formed, choice-shorter}
+use Rattle.laws.proofs.Steps.{unbeaten-choice}
 use Rattle.laws.proofs.Returned.{kept-formed, edited-start-length, single, single-formed}
 
 bytes-words : (rules : List Rule) → bytesFor rules ≡ 8 * length rules + 2 * bodyWords rules
@@ -50,19 +52,20 @@ with-start-words body (r ∷ []) h = omega arith
 with-start-words body (r ∷ s ∷ rs) h = omega (arith, with-start-words body (s ∷ rs) (omega arith))
 
 -- a round makes the bodies shorter: what it adds is a rule
-passes-words : {rules later : List Rule} → T (formed rules) → Passes rules later → bodyWords later ≤ bodyWords rules
+passes-words : {rules later : List Rule} {n : ℕ} → T (formed rules) → Passes rules n later → bodyWords later ≤ bodyWords rules
 passes-words f start = omega arith
-passes-words f (round {rules} {later} {x} room e p) =
-    let next : List Rule = oneRound (x .digram) rules in
+passes-words f (round {rules} {later} {n} {d} room u p) =
+    let next : List Rule = oneRound d rules in
+    let e : choice rules ≡ some (countedIn rules d) = unbeaten-choice rules d u in
     omega (
       arith,
-      passes-words (choice-formed rules x f e room) p,
-      choice-shorter rules x f e,
+      passes-words (choice-formed rules (countedIn rules d) f e room) p,
+      choice-shorter rules (countedIn rules d) f e,
       write-length next,
       write-length rules,
       bytes-words next,
       bytes-words rules,
-      round-rules (x .digram) rules,
+      round-rules d rules,
     )
 
 allowed-long : (longest : ℕ) (s : List ℕ) → T (treeAllowed longest s) → length s ≤ longest
@@ -79,7 +82,7 @@ update-words rules f h u s t =
       opened = omega (arith, open-words);
       edited = edited-words;
       whole = whole-words;
-      rounds = λ later p. omega (arith, passes-words (kept-formed rules f u s) p, dropped-words (withStart (editedStart rules u) rules), whole-words);
+      rounds = λ n later p. omega (arith, passes-words (kept-formed rules f u s) p, dropped-words (withStart (editedStart rules u) rules), whole-words);
     }
   where
     open-words : length (openedAt rules (u .at) .words) ≤ 8183
@@ -92,7 +95,7 @@ update-words rules f h u s t =
     whole-words = omega (arith, edited-words, with-start-words (editedStart rules u) rules (formed-parts rules f .some), file-words rules h, formed-parts rules f .some)
 
 -- "trees for packing at most 16,384"
-pub pack-words : (tree : List ℕ) → T (treeAllowed longestTree tree) → (later : List Rule) → Passes (single tree) later → bodyWords later ≤ 16384
-pack-words tree t later p =
+pub pack-words : (tree : List ℕ) → T (treeAllowed longestTree tree) → (n : ℕ) (later : List Rule) → Passes (single tree) n later → bodyWords later ≤ 16384
+pack-words tree t n later p =
     let plain = and-yes (isPlainTree tree) (ltb 1 (length tree)) (and-yes (isPlainTree tree && ltb 1 (length tree)) (leb (length tree) longestTree) t .0) .0 in
     omega (arith, passes-words (single-formed tree plain) p, allowed-long longestTree tree t)

@@ -3,6 +3,7 @@ pub mod Orders
 pub mod Sums
 pub mod Conditions
 pub mod Published
+pub mod Steps
 pub mod Returned
 pub mod Runs
 pub mod Work
