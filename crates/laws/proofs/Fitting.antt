@@ -17,7 +17,7 @@ use Rattle.model.specs.File.{ruleCount, ruleIn, afterRecord, write}
 use Rattle.model.specs.Edits.{Edit, rename, insert, delete, Update, updated, added, took, tookAs}
 use Rattle.model.specs.Answers.{updateRefusals, fileRefusals, remade, update, leastWork}
 use Rattle.laws.specs.Orders.{Suits}
-use Rattle.laws.specs.Conditions.{firstIn, NoneHolds, First, Condition, at, hugeConditions, rulesConditions, rulesIn, readConditions}
+use Rattle.laws.specs.Conditions.{firstIn, NoneHolds, First, Condition, at, hugeConditions, rulesConditions, fileRules, readConditions}
 use Rattle.laws.proofs.Conditions.{firstIn-iff}
 use Rattle.laws.proofs.Refusals.{read-taken-iff, update-exactly}
 use Rattle.laws.proofs.Reading.{read-taken}
@@ -94,17 +94,17 @@ nodes-small rules t =
 
 module _ (room work : ℕ) (file : List ℕ) (u : Update) where
   abbrev tree : List ℕ
-  tree = treeOf (rulesIn file)
+  tree = treeOf (fileRules file)
 
   abbrev after : List Condition
-  after = at 0 (fileRefusals room (write (remade (rulesIn file) u .rules)))
+  after = at 0 (fileRefusals room (write (remade (fileRules file) u .rules)))
 
   abbrev sized : List Condition
   sized = (eqb (length (updated u tree)) 1, (NOTHING-LEFT, 0)) ∷ (ltb largestSize (length (updated u tree)), (OUTGROWN, 0)) ∷ after
 
   -- before 16 and 17 are tried, the file is read and the update has its place in its tree
   record Tried (x : Refusal) : Type 0 where
-    is-taken : Taken (rulesIn file)
+    is-taken : Taken (fileRules file)
     length-is : length (updated u tree) + took tree u ≡ length tree + added (u .edit)
     there : u .at < length tree
     place : ℕ
@@ -116,12 +116,12 @@ module _ (room work : ℕ) (file : List ℕ) (u : Update) where
       let (w, g) =
       first-behind x k ((ltb work leastWork, (WORK, 0)) ∷ readConditions file) (at 0 (updateRefusals tree u) ++ after) (λ e. omega arith, other-read x (omega arith) file)
       (subst (λ (cs : List Condition). First (x, k) ((ltb work leastWork, (WORK, 0)) ∷ cs)) (append-assoc (readConditions file) (at 0 (updateRefusals tree u)) after) f) in
-      let is-taken : Taken (rulesIn file) = read-taken file (rulesIn file) (read-taken-iff file (rulesIn file) .1 (w .1, refl)) in
+      let is-taken : Taken (fileRules file) = read-taken file (fileRules file) (read-taken-iff file (fileRules file) .1 (w .1, refl)) in
       let (c, rest) = first-behind x k (take 4 (at 0 (updateRefusals tree u))) sized (λ e. omega arith, (λ e. omega arith, (λ e. omega arith, (λ e. omega arith, tt)))) g in
       let s : Suits tree u = suits tree u (c .0) (c .1 .0) (c .1 .1 .0) (c .1 .1 .1 .0) in
       record {
         is-taken = is-taken;
-        length-is = updated-length tree u (tree-plain (rulesIn file) (is-taken .is-formed)) s;
+        length-is = updated-length tree u (tree-plain (fileRules file) (is-taken .is-formed)) s;
         there = s .0;
         place = k;
         first = rest;
@@ -145,7 +145,7 @@ module _ (room work : ℕ) (file : List ℕ) (u : Update) where
       let t = tried OUTGROWN (omega arith) (omega arith) n in
       let rest = first-behind OUTGROWN (t .place) ((eqb (length (updated u tree)) 1, (NOTHING-LEFT, 0)) ∷ []) _ (λ e. omega arith, tt) (t .first) .1 in
       let over = ltb-true largestSize (length (updated u tree)) (first-holds OUTGROWN (t .place) _ _ (λ e. omega arith, (λ e. omega arith, tt)) rest) in
-      go (u .edit) refl over (nodes-small (rulesIn file) (t .is-taken)) (t .length-is)
+      go (u .edit) refl over (nodes-small (fileRules file) (t .is-taken)) (t .length-is)
     where
       go : (e : Edit) → u .edit ≡ e → largestSize < length (updated u tree) → length tree ≤ largestSize
           → length (updated u tree) + tookAs tree (u .at) e ≡ length tree + added e → (s : List ℕ) × (u .edit ≡ insert s)

@@ -17,7 +17,7 @@ use Rattle.model.specs.File.{isEven, payloadLength, kindIn, numberAt, editionIn
 use Rattle.model.specs.Edits.{Update}
 use Rattle.model.specs.Answers.{Answer, FileAnswer, refusal, refusedFile, updateRefusals, fileRefusals, remade, update, leastWork}
 use Rattle.model.specs.Program.{requestAllowed, requestRefused, updateIn, answerRecord, output, runOn, program}
-use Rattle.laws.specs.Conditions.{NoneHolds, First, Condition, at, decide, hugeConditions, rulesConditions, rulesIn, readConditions, updateConditions, programConditions, answerIn, Exactly}
+use Rattle.laws.specs.Conditions.{NoneHolds, First, Condition, at, decide, hugeConditions, rulesConditions, fileRules, readConditions, updateConditions, programConditions, answerIn, Exactly}
 use Rattle.laws.proofs.Conditions.{decide-cons, decide-map, decide-cases, decide-first}
 use Rattle.laws.proofs.Written.{number-bytes}
 use Rattle.laws.proofs.Refusals.{numberOf-small, updatedFile, update-is, exactly}
@@ -76,16 +76,16 @@ read-until file = (
 update-until : (room work : ℕ) (file : List ℕ) (u : Update) → Until 257 (updateConditions room work file u)
 update-until room work file u = (
   omega arith,
-  λ z. until-append 257 (readConditions file ++ at 0 (updateRefusals (treeOf (rulesIn file)) u)) (at 0 (fileRefusals room (write (remade (rulesIn file) u .rules))))
-      (until-append 257 (readConditions file) (at 0 (updateRefusals (treeOf (rulesIn file)) u)) (read-until file)
-      (λ h. until-at 257 0 (updateRefusals (treeOf (rulesIn file)) u) (omega arith)))
-      (λ h. until-at 257 0 (fileRefusals room (write (remade (rulesIn file) u .rules))) (omega arith)),
+  λ z. until-append 257 (readConditions file ++ at 0 (updateRefusals (treeOf (fileRules file)) u)) (at 0 (fileRefusals room (write (remade (fileRules file) u .rules))))
+      (until-append 257 (readConditions file) (at 0 (updateRefusals (treeOf (fileRules file)) u)) (read-until file)
+      (λ h. until-at 257 0 (updateRefusals (treeOf (fileRules file)) u) (omega arith)))
+      (λ h. until-at 257 0 (fileRefusals room (write (remade (fileRules file) u .rules))) (omega arith)),
 )
 
 -- what the program writes when it accepts: the answer record, then the file
 abbrev pub acceptedOutput : List ℕ → List ℕ
 acceptedOutput bytes =
-    let rules = rulesIn (afterRecord bytes) in
+    let rules = fileRules (afterRecord bytes) in
     let u = updateIn bytes in
     answerRecord (updatedFile largestFile leastWork rules u .answer) ++ write (remade rules u .rules)
 
@@ -102,10 +102,10 @@ run-is bytes =
     u = updateIn bytes
 
     done : FileAnswer
-    done = updatedFile largestFile leastWork (rulesIn (afterRecord bytes)) u
+    done = updatedFile largestFile leastWork (fileRules (afterRecord bytes)) u
 
     file : List ℕ
-    file = write (remade (rulesIn (afterRecord bytes)) u .rules)
+    file = write (remade (fileRules (afterRecord bytes)) u .rules)
 
 -- a refusal's answer record holds the refusal
 refusal-in : (x : Refusal) (k : ℕ) → k ≤ 257 → answerIn (answerRecord (refusal x k)) ≡ refusal x k
@@ -130,7 +130,7 @@ program-exactly input =
     exactly answerIn (programConditions (take 20495 input)) (λ x k. answerRecord (refusal x k)) _
     (λ x k f. refusal-in x k (first-until 257 (programConditions (take 20495 input)) x k
     (omega arith, λ z. update-until largestFile leastWork (afterRecord (take 20495 input)) (updateIn (take 20495 input))) f))
-    refl (program input) (program-is input)
+    refl refl (program input) (program-is input)
 
 -- "Its output is never empty."
 pub program-never-empty : (input : List ℕ) → 14 ≤ length (program input)
@@ -158,7 +158,7 @@ large-refused : (room work : ℕ) (file : List ℕ) (u : Update) → leastWork �
 unfolding readConditions
 large-refused room work file u w h =
     update-is room work file u
-    ∙ decide-first (refusedFile room work) (updateConditions room work file u) (updatedFile room work (rulesIn file) u) LARGE 0 (
+    ∙ decide-first (refusedFile room work) (updateConditions room work file u) (updatedFile room work (fileRules file) u) LARGE 0 (
       (ltb work leastWork, (WORK, 0)) ∷ [],
       after,
       ap (λ (b : Bool). (ltb work leastWork, (WORK, 0)) ∷ (b, (LARGE, 0)) ∷ after) (lt-ltb largestFile (length file) h),
@@ -168,7 +168,7 @@ large-refused room work file u w h =
     after : List Condition
     after =
         at 0 (headRefusals file) ++ rulesConditions (ruleCount file) [] (afterRecord file)
-        ++ at 0 (updateRefusals (treeOf (rulesIn file)) u) ++ at 0 (fileRefusals room (write (remade (rulesIn file) u .rules)))
+        ++ at 0 (updateRefusals (treeOf (fileRules file)) u) ++ at 0 (fileRefusals room (write (remade (fileRules file) u .rules)))
 
 -- of so many bytes the request alone decides: an update is refused because its file is too long
 run-long : (b : List ℕ) → 20495 ≤ length b → runOn b ≡ answerRecord (refusal (cond (requestAllowed (kindIn b) (payloadLength b)) LARGE REQUEST) 0)

@@ -14,7 +14,7 @@ use Rattle.model.specs.Words.{within}
 use Rattle.model.specs.Trees.{Rule, ranksOf, mostRules}
 use Rattle.model.specs.Refusals.{taken}
 use Rattle.model.specs.File.{bytesOf, numberAt, wordsIn, wordBytes, payloadLength, kindIn, payloadIn, afterRecord, isEven, recordRefusals, editionIn, ruleCount, headRefusals, ruleIn, ruleRefusals, read, recordOf, ruleRecords, write}
-use Rattle.laws.specs.Conditions.{NoneHolds, at, rulesConditions, rulesFrom, rulesIn, readConditions}
+use Rattle.laws.specs.Conditions.{NoneHolds, at, rulesConditions, rulesFrom, fileRules, readConditions}
 use Rattle.laws.proofs.Conditions.{noneHolds-split, noneHolds-at}
 use Rattle.laws.proofs.Refusals.{read-taken-iff}
 use Rattle.laws.proofs.Tests.{true-T, passed}
@@ -123,7 +123,7 @@ rules-back (suc due) done bytes h n =
     ∙ rule-back (ranksOf done) (eqb due 0) bytes h (noneHolds-at (suc (length done)) (ruleRefusals (ranksOf done) (eqb due 0) bytes) here))
 
 pub read-write : (file : List ℕ) (rules : List Rule) → Below 256 file → read file ≡ taken rules → write rules ≡ file
-unfolding write readConditions rulesIn
+unfolding write readConditions fileRules
 read-write file rules h e =
     let (n, is) = read-taken-iff file rules .0 e in
     let (head, after) = noneHolds-split (at 0 (headRefusals file)) (rulesConditions (ruleCount file) [] (afterRecord file)) (n .1) in

@@ -13,7 +13,7 @@ use Rattle.model.specs.Words.{within}
 use Rattle.model.specs.Trees.{Rule, expansions, ranksOf, nodes, size, largestSize, mostRules}
 use Rattle.model.specs.Refusals.{EMPTY, HEAD, taken}
 use Rattle.model.specs.File.{editionIn, recordRefusals, ruleIn, ruleRefusals, read, ruleCount, afterRecord, headRefusals}
-use Rattle.laws.specs.Conditions.{NoneHolds, at, hugeConditions, rulesConditions, rulesFrom, rulesIn, readConditions}
+use Rattle.laws.specs.Conditions.{NoneHolds, at, hugeConditions, rulesConditions, rulesFrom, fileRules, readConditions}
 use Rattle.laws.specs.Formed.{formed, formedOn, startRank}
 use Rattle.laws.proofs.Tests.{passed}
 use Rattle.laws.proofs.Conditions.{noneHolds-split, noneHolds-at, firstOf-none}
@@ -59,8 +59,8 @@ read-on (suc due) done bytes n f s =
       not-empty = r .not-empty;
     }
 
-rules-taken : (file : List ℕ) → NoneHolds (readConditions file) → Taken (rulesIn file)
-unfolding readConditions rulesIn
+rules-taken : (file : List ℕ) → NoneHolds (readConditions file) → Taken (fileRules file)
+unfolding readConditions fileRules
 rules-taken file n =
     let (head, rest) = noneHolds-split (at 0 (headRefusals file)) (rulesConditions (ruleCount file) [] (afterRecord file)) (n .1) in
     let counts = noneHolds-split (recordRefusals 1 (λ l. eqb l 4) file) ((not (eqb (editionIn file) 1 && within 1 mostRules (ruleCount file)), HEAD) ∷ [])
@@ -68,7 +68,7 @@ rules-taken file n =
     let some : T (within 1 mostRules (ruleCount file)) =
     and-yes (eqb (editionIn file) 1) (within 1 mostRules (ruleCount file)) (passed (eqb (editionIn file) 1 && within 1 mostRules (ruleCount file)) counts) .1 in
     let r = read-on (ruleCount file) [] (afterRecord file) rest tt (λ z. absurd (subst (λ k. T (within 1 mostRules k)) z some)) in
-    let rules = rulesIn file in
+    let rules = fileRules file in
     let l : length rules ≡ ruleCount file = r .count ∙ zero-add (ruleCount file) in
     let f : T (formed rules) =
     yes-and (within 1 mostRules (length rules) && eqb (startRank rules) 0) (formedOn [] rules)

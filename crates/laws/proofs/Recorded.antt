@@ -16,9 +16,9 @@ use Rattle.model.specs.Program.{updateIn, answerRecord, program}
 use Rattle.laws.specs.Formed.{formed}
 use Rattle.laws.specs.Orders.{Suits}
 use Rattle.laws.specs.Returned.{UpdateReturns, fileOf}
-use Rattle.laws.specs.Conditions.{NoneHolds, rulesIn, updateConditions, programConditions, answerIn}
+use Rattle.laws.specs.Conditions.{NoneHolds, fileRules, updateConditions, programConditions, answerIn}
 use Rattle.laws.proofs.Conditions.{decide-none}
-use Rattle.laws.proofs.Refusals.{updatedFile, update-is, update-exactly}
+use Rattle.laws.proofs.Refusals.{read-taken-iff, updatedFile, update-is, update-exactly}
 use Rattle.laws.proofs.Grammar.{formed-parts}
 use Rattle.laws.proofs.Reading.{read-taken}
 use Rattle.laws.proofs.Opening.{falls-few}
@@ -64,13 +64,13 @@ program-recorded input ok = (
     none-holds = program-exactly input .accepted-iff .0 ok
 
     new : List ℕ
-    new = write (remade (rulesIn file) u .rules)
+    new = write (remade (fileRules file) u .rules)
 
     written : program input ≡ acceptedOutput bytes
     written = program-is input ∙ decide-none (λ x k. answerRecord (refusal x k)) (programConditions bytes) (acceptedOutput bytes) none-holds
 
     done : FileAnswer
-    done = updatedFile largestFile leastWork (rulesIn file) u
+    done = updatedFile largestFile leastWork (fileRules file) u
 
     is : update largestFile leastWork file u ≡ done
     is = update-is largestFile leastWork file u ∙ decide-none (refusedFile largestFile leastWork) (updateConditions largestFile leastWork file u) done (none-holds .1)
@@ -88,4 +88,4 @@ program-recorded input ok = (
     opened = sym (ap (λ (x : FileAnswer). x .answer .opened) is) ∙ returns .opened-is
 
     rounds : done .answer .rounds ≡ remade old u .rounds
-    rounds = sym (ap (λ (x : FileAnswer). x .answer .rounds) is) ∙ returns .rounds-is
+    rounds = ap (λ (rules : List Rule). remade rules u .rounds) (read-taken-iff file old .0 (returns .reads) .1)

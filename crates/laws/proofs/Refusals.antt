@@ -1,5 +1,5 @@
 -- A refusal is given exactly under its condition: for each operation, an answer has a refusal's number if and only if the refusal's condition
--- holds and none before it in the page's order does. And what an operation answers is settled for every input, with the final content of every lent slice.
+-- holds and none before it in the page's order does.
 use Prim.Native.Nat.{ℕ, zero, suc, _+_, _-_, _≤_}
 use native.Mathlib.Nat.{sub-zero}
 use native.Mathlib.Omega.{arith}
@@ -21,8 +21,7 @@ use Rattle.model.specs.Edits.{Update}
 use Rattle.model.specs.Opening.{openedAt}
 use Rattle.model.specs.Rounds.{Repacked}
 use Rattle.model.specs.Answers.{Answer, FileAnswer, accepted, refusal, checked, checkedAs, counted, countedAs, labelAs, labelAt, windowAs, windowAt, refusedFile, acceptedFile, updateRefusals, fileRefusals, packRefusals, finished, finishedAs, remade, packed, update, updateAs, pack, leastWork}
-use Rattle.model.specs.Program.{program}
-use Rattle.laws.specs.Conditions.{firstIn, NoneHolds, First, Condition, at, decide, hugeConditions, wholeConditions, rulesConditions, rulesFrom, rulesIn, readConditions, labelConditions, windowConditions, updateConditions, packConditions, refusedCount, refusedLabel, refusedWindow, Exactly, FilledFile, FilledWindow, Unique}
+use Rattle.laws.specs.Conditions.{firstIn, NoneHolds, First, Condition, at, decide, hugeConditions, wholeConditions, rulesConditions, rulesFrom, fileRules, readConditions, labelConditions, windowConditions, updateConditions, packConditions, refusedCount, refusedLabel, refusedWindow, Exactly, FilledFile, FilledWindow}
 use Rattle.laws.proofs.Conditions.{noneHolds-split, decide-cons, decide-append, decide-snoc, decide-at, decide-map, decide-cases, decide-first, decide-none, first-unique, none-not-first}
 
 -- The closed list, by number: a number tells its refusal, and none is 0, the number of an accepted answer.
@@ -88,57 +87,57 @@ rules-is (suc due) rules bytes =
     here : List (Bool × Refusal)
     here = ruleRefusals (ranksOf rules) (eqb due 0) bytes
 
-pub read-is : (file : List ℕ) → read file ≡ decide (readConditions file) refused (taken (rulesIn file))
-unfolding read rulesIn readConditions
+pub read-is : (file : List ℕ) → read file ≡ decide (readConditions file) refused (taken (fileRules file))
+unfolding read fileRules readConditions
 read-is file =
     ap (λ (z : Result (List Rule)). elim (ltb largestFile (length file)) [ true ↦ refused LARGE 0 | false ↦ z ])
     (decide-at refused 0 (headRefusals file) (readRules (ruleCount file) [] (afterRecord file))
     ∙ ap (decide (at 0 (headRefusals file)) refused) (rules-is (ruleCount file) [] (afterRecord file))
-    ∙ decide-append refused (at 0 (headRefusals file)) rules (taken (rulesIn file)))
-    ∙ decide-cons refused (ltb largestFile (length file), (LARGE, 0)) (at 0 (headRefusals file) ++ rules) (taken (rulesIn file))
+    ∙ decide-append refused (at 0 (headRefusals file)) rules (taken (fileRules file)))
+    ∙ decide-cons refused (ltb largestFile (length file), (LARGE, 0)) (at 0 (headRefusals file) ++ rules) (taken (fileRules file))
   where
     rules : List Condition
     rules = rulesConditions (ruleCount file) [] (afterRecord file)
 
 -- the reader takes a file exactly when no condition holds, and refuses exactly as the first that holds says
-pub read-taken-iff : (file : List ℕ) (rules : List Rule) → (read file ≡ taken rules) ↔ (NoneHolds (readConditions file) × (rulesIn file ≡ rules))
+pub read-taken-iff : (file : List ℕ) (rules : List Rule) → (read file ≡ taken rules) ↔ (NoneHolds (readConditions file) × (fileRules file ≡ rules))
 read-taken-iff file rules = (
-  λ e. decide-cases refused (λ (z : Result (List Rule)). z ≡ taken rules → NoneHolds (readConditions file) × (rulesIn file ≡ rules)) (readConditions file) (taken (rulesIn file))
+  λ e. decide-cases refused (λ (z : Result (List Rule)). z ≡ taken rules → NoneHolds (readConditions file) × (fileRules file ≡ rules)) (readConditions file) (taken (fileRules file))
       (λ x k f g. absurd (let z : _≡_ {A = ℕ} 0 1 = cc in omega arith)) (λ h g. (h, cc)) (sym (read-is file) ∙ e),
-  λ h. read-is file ∙ decide-none refused (readConditions file) (taken (rulesIn file)) (h .0) ∙ ap taken (h .1),
+  λ h. read-is file ∙ decide-none refused (readConditions file) (taken (fileRules file)) (h .0) ∙ ap taken (h .1),
 )
 
 pub read-refused-iff : (file : List ℕ) (x : Refusal) (k : ℕ) → (read file ≡ refused x k) ↔ First (x, k) (readConditions file)
 read-refused-iff file x k = (
-  λ e. decide-cases refused (λ (z : Result (List Rule)). z ≡ refused x k → First (x, k) (readConditions file)) (readConditions file) (taken (rulesIn file))
+  λ e. decide-cases refused (λ (z : Result (List Rule)). z ≡ refused x k → First (x, k) (readConditions file)) (readConditions file) (taken (fileRules file))
       (λ y m f g. subst (λ (z : Refusal × ℕ). First z (readConditions file)) (same y m g) f) (λ h g. absurd (let z : _≡_ {A = ℕ} 0 1 = cc in omega arith)) (sym (read-is file) ∙ e),
-  λ f. read-is file ∙ decide-first refused (readConditions file) (taken (rulesIn file)) x k f,
+  λ f. read-is file ∙ decide-first refused (readConditions file) (taken (fileRules file)) x k f,
 )
   where
     same : (y : Refusal) (m : ℕ) → _≡_ {A = Result (List Rule)} (refused y m) (refused x k) → _≡_ {A = Refusal × ℕ} (y, m) (x, k)
     same y m g = cc
 
 pub checked-is : (file : List ℕ) → checked file ≡ decide (readConditions file) refusal (accepted 0 0 0)
-checked-is file = ap checkedAs (read-is file) ∙ decide-map refused checkedAs (readConditions file) (taken (rulesIn file))
+checked-is file = ap checkedAs (read-is file) ∙ decide-map refused checkedAs (readConditions file) (taken (fileRules file))
 
-pub counted-is : (file : List ℕ) → counted file ≡ decide (readConditions file) refusedCount (record { answer = accepted 0 0 0; nodes = nodes (rulesIn file) })
-counted-is file = ap countedAs (read-is file) ∙ decide-map refused countedAs (readConditions file) (taken (rulesIn file))
+pub counted-is : (file : List ℕ) → counted file ≡ decide (readConditions file) refusedCount (record { answer = accepted 0 0 0; nodes = nodes (fileRules file) })
+counted-is file = ap countedAs (read-is file) ∙ decide-map refused countedAs (readConditions file) (taken (fileRules file))
 
 pub labelAt-is : (file : List ℕ) (p : ℕ)
-    → labelAt file p ≡ decide (labelConditions file p) refusedLabel (record { answer = accepted 0 0 0; word = getD (treeOf (rulesIn file)) p 0 })
+    → labelAt file p ≡ decide (labelConditions file p) refusedLabel (record { answer = accepted 0 0 0; word = getD (treeOf (fileRules file)) p 0 })
 labelAt-is file p =
     ap (labelAs p) (read-is file)
-    ∙ decide-map refused (labelAs p) (readConditions file) (taken (rulesIn file))
-    ∙ decide-snoc refusedLabel (readConditions file) (leb (nodes (rulesIn file)) p, (POSITION, 0)) (record { answer = accepted 0 0 0; word = getD (treeOf (rulesIn file)) p 0 })
+    ∙ decide-map refused (labelAs p) (readConditions file) (taken (fileRules file))
+    ∙ decide-snoc refusedLabel (readConditions file) (leb (nodes (fileRules file)) p, (POSITION, 0)) (record { answer = accepted 0 0 0; word = getD (treeOf (fileRules file)) p 0 })
 
 pub windowAt-is : (file : List ℕ) (p size : ℕ)
     → windowAt file p size
-    ≡ decide (windowConditions file p size) (refusedWindow size) (record { answer = accepted 0 0 0; window = take size (drop p (treeOf (rulesIn file))) })
+    ≡ decide (windowConditions file p size) (refusedWindow size) (record { answer = accepted 0 0 0; window = take size (drop p (treeOf (fileRules file))) })
 windowAt-is file p size =
     ap (windowAs p size) (read-is file)
-    ∙ decide-map refused (windowAs p size) (readConditions file) (taken (rulesIn file))
-    ∙ decide-snoc (refusedWindow size) (readConditions file) (ltb (nodes (rulesIn file)) (p + size), (POSITION, 0))
-    (record { answer = accepted 0 0 0; window = take size (drop p (treeOf (rulesIn file))) })
+    ∙ decide-map refused (windowAs p size) (readConditions file) (taken (fileRules file))
+    ∙ decide-snoc (refusedWindow size) (readConditions file) (ltb (nodes (fileRules file)) (p + size), (POSITION, 0))
+    (record { answer = accepted 0 0 0; window = take size (drop p (treeOf (fileRules file))) })
 
 finished-is : (room work opened : ℕ) (r : Repacked)
     → finished room work opened r ≡ decide (at 0 (fileRefusals room (write (r .rules)))) (refusedFile room work) (acceptedFile room work opened (r .rounds) (write (r .rules)))
@@ -156,26 +155,26 @@ abbrev pub updatedFile : ℕ → ℕ → List Rule → Update → FileAnswer
 updatedFile room work rules u = acceptedFile room work (length (openedAt rules (u .at) .opened)) (remade rules u .rounds) (write (remade rules u .rules))
 
 pub update-is : (room work : ℕ) (file : List ℕ) (u : Update)
-    → update room work file u ≡ decide (updateConditions room work file u) (refusedFile room work) (updatedFile room work (rulesIn file) u)
+    → update room work file u ≡ decide (updateConditions room work file u) (refusedFile room work) (updatedFile room work (fileRules file) u)
 unfolding update
 update-is room work file u =
     ap (λ (z : FileAnswer). elim (ltb work leastWork) [ true ↦ refuse WORK 0 | false ↦ z ])
     (ap (updateAs room work u) (read-is file)
-    ∙ decide-map refused (updateAs room work u) (readConditions file) (taken (rulesIn file))
-    ∙ ap (decide (readConditions file) refuse) (decide-at refuse 0 (updateRefusals (treeOf (rulesIn file)) u) done)
-    ∙ decide-append refuse (readConditions file) (at 0 (updateRefusals (treeOf (rulesIn file)) u)) done
-    ∙ ap (decide before refuse) (finished-is room work (length (openedAt (rulesIn file) (u .at) .opened)) (remade (rulesIn file) u))
-    ∙ decide-append refuse before (at 0 (fileRefusals room (write (remade (rulesIn file) u .rules)))) (updatedFile room work (rulesIn file) u))
-    ∙ decide-cons refuse (ltb work leastWork, (WORK, 0)) (before ++ at 0 (fileRefusals room (write (remade (rulesIn file) u .rules)))) (updatedFile room work (rulesIn file) u)
+    ∙ decide-map refused (updateAs room work u) (readConditions file) (taken (fileRules file))
+    ∙ ap (decide (readConditions file) refuse) (decide-at refuse 0 (updateRefusals (treeOf (fileRules file)) u) done)
+    ∙ decide-append refuse (readConditions file) (at 0 (updateRefusals (treeOf (fileRules file)) u)) done
+    ∙ ap (decide before refuse) (finished-is room work (length (openedAt (fileRules file) (u .at) .opened)) (remade (fileRules file) u))
+    ∙ decide-append refuse before (at 0 (fileRefusals room (write (remade (fileRules file) u .rules)))) (updatedFile room work (fileRules file) u))
+    ∙ decide-cons refuse (ltb work leastWork, (WORK, 0)) (before ++ at 0 (fileRefusals room (write (remade (fileRules file) u .rules)))) (updatedFile room work (fileRules file) u)
   where
     refuse : Refusal → ℕ → FileAnswer
     refuse x k = refusedFile room work x k
 
     done : FileAnswer
-    done = finished room work (length (openedAt (rulesIn file) (u .at) .opened)) (remade (rulesIn file) u)
+    done = finished room work (length (openedAt (fileRules file) (u .at) .opened)) (remade (fileRules file) u)
 
     before : List Condition
-    before = readConditions file ++ at 0 (updateRefusals (treeOf (rulesIn file)) u)
+    before = readConditions file ++ at 0 (updateRefusals (treeOf (fileRules file)) u)
 
 pub pack-is : (room work : ℕ) (tree : List ℕ)
     → pack room work tree ≡ decide (packConditions room work tree) (refusedFile room work) (acceptedFile room work 0 (packed tree .rounds) (write (packed tree .rules)))
@@ -188,9 +187,9 @@ pack-is room work tree =
 
 -- A refusal's number tells that its condition was the first to hold; `answer` is what an operation's whole result says.
 pub exactly : {A : Type 0} (answer : A → Answer) (cs : List Condition) (refuse : Refusal → ℕ → A) (accept : A)
-    → ((x : Refusal) (k : ℕ) → First (x, k) cs → answer (refuse x k) ≡ refusal x k) → answer accept .number ≡ 0
+    → ((x : Refusal) (k : ℕ) → First (x, k) cs → answer (refuse x k) ≡ refusal x k) → answer accept .number ≡ 0 → answer accept .place ≡ 0
     → (a : A) → a ≡ decide cs refuse accept → Exactly cs (answer a)
-exactly {A} answer cs refuse accept says number a e =
+exactly {A} answer cs refuse accept says number place a e =
     subst (λ (b : A). Exactly cs (answer b)) (sym e) (decide-cases refuse (λ b. Exactly cs (answer b)) cs accept
     (λ x k f.
     let is : answer (refuse x k) .number ≡ numberOf x = ap (λ (b : Answer). b .number) (says x k f) in
@@ -198,6 +197,7 @@ exactly {A} answer cs refuse accept says number a e =
       ends = inr (x, is);
       once = λ y z p q. numberOf-injective y z (sym p ∙ q);
       accepted-iff = (λ n. absurd (omega (arith, numberOf-positive x)), λ h. absurd (none-not-first cs (x, k) h f));
+      accepted-place = λ n. absurd (omega (arith, numberOf-positive x));
       refused-iff = λ y. (
         λ n. (k, subst (λ (z : Refusal). First (z, k) cs) (numberOf-injective x y (sym is ∙ n)) f),
         λ h. is ∙ ap (λ (z : Refusal × ℕ). numberOf (z .0)) (first-unique cs (x, k) (y, h .0) f (h .1)),
@@ -209,58 +209,34 @@ exactly {A} answer cs refuse accept says number a e =
       ends = inl number;
       once = λ y z p q. numberOf-injective y z (sym p ∙ q);
       accepted-iff = (λ n. h, λ n. number);
+      accepted-place = λ n. place;
       refused-iff = λ y. (λ n. absurd (omega (arith, numberOf-positive y)), λ f. absurd (none-not-first cs (y, f .0) h (f .1)));
       refused-as = λ y m f. absurd (none-not-first cs (y, m) h f);
     }))
 
 -- Exactly under its condition, operation by operation
 pub checked-exactly : (file : List ℕ) → Exactly (readConditions file) (checked file)
-checked-exactly file = exactly (λ x. x) (readConditions file) refusal _ (λ x k h. refl) refl (checked file) (checked-is file)
+checked-exactly file = exactly (λ x. x) (readConditions file) refusal _ (λ x k h. refl) refl refl (checked file) (checked-is file)
 
 pub counted-exactly : (file : List ℕ) → Exactly (readConditions file) (counted file .answer)
-counted-exactly file = exactly (λ x. x .answer) (readConditions file) refusedCount _ (λ x k h. refl) refl (counted file) (counted-is file)
+counted-exactly file = exactly (λ x. x .answer) (readConditions file) refusedCount _ (λ x k h. refl) refl refl (counted file) (counted-is file)
 
 pub labelAt-exactly : (file : List ℕ) (p : ℕ) → Exactly (labelConditions file p) (labelAt file p .answer)
-labelAt-exactly file p = exactly (λ x. x .answer) (labelConditions file p) refusedLabel _ (λ x k h. refl) refl (labelAt file p) (labelAt-is file p)
+labelAt-exactly file p = exactly (λ x. x .answer) (labelConditions file p) refusedLabel _ (λ x k h. refl) refl refl (labelAt file p) (labelAt-is file p)
 
 pub windowAt-exactly : (file : List ℕ) (p size : ℕ) → Exactly (windowConditions file p size) (windowAt file p size .answer)
 windowAt-exactly file p size =
-    exactly (λ x. x .answer) (windowConditions file p size) (refusedWindow size) _ (λ x k h. refl) refl (windowAt file p size) (windowAt-is file p size)
+    exactly (λ x. x .answer) (windowConditions file p size) (refusedWindow size) _ (λ x k h. refl) refl refl (windowAt file p size) (windowAt-is file p size)
 
 pub update-exactly : (room work : ℕ) (file : List ℕ) (u : Update) → Exactly (updateConditions room work file u) (update room work file u .answer)
 update-exactly room work file u =
-    exactly (λ x. x .answer) (updateConditions room work file u) (refusedFile room work) _ (λ x k h. refl) refl (update room work file u) (update-is room work file u)
+    exactly (λ x. x .answer) (updateConditions room work file u) (refusedFile room work) _ (λ x k h. refl) refl refl (update room work file u) (update-is room work file u)
 
 pub pack-exactly : (room work : ℕ) (tree : List ℕ) → Exactly (packConditions room work tree) (pack room work tree .answer)
 pack-exactly room work tree =
-    exactly (λ x. x .answer) (packConditions room work tree) (refusedFile room work) _ (λ x k h. refl) refl (pack room work tree) (pack-is room work tree)
+    exactly (λ x. x .answer) (packConditions room work tree) (refusedFile room work) _ (λ x k h. refl) refl refl (pack room work tree) (pack-is room work tree)
 
--- Uniqueness: what conforms is equal, with every lent slice's final content.
-pub record Settled : Type 0 where
-  pub checked-unique : (file : List ℕ) → Unique (checked file)
-  pub counted-unique : (file : List ℕ) → Unique (counted file)
-  pub labelAt-unique : (file : List ℕ) (p : ℕ) → Unique (labelAt file p)
-  pub windowAt-unique : (file : List ℕ) (p size : ℕ) → Unique (windowAt file p size)
-  pub update-unique : (room work : ℕ) (file : List ℕ) (u : Update) → Unique (update room work file u)
-  pub pack-unique : (room work : ℕ) (tree : List ℕ) → Unique (pack room work tree)
-  pub program-unique : (input : List ℕ) → Unique (program input)
-
-unique : {A : Type 0} (m : A) → Unique m
-unique m a b p q = p ∙ sym q
-
-pub settled : Settled
-settled =
-    record {
-      checked-unique = λ file. unique (checked file);
-      counted-unique = λ file. unique (counted file);
-      labelAt-unique = λ file p. unique (labelAt file p);
-      windowAt-unique = λ file p size. unique (windowAt file p size);
-      update-unique = λ room work file u. unique (update room work file u);
-      pack-unique = λ room work tree. unique (pack room work tree);
-      program-unique = λ input. unique (program input);
-    }
-
--- And the slices have the lengths of those lent.
+-- The lent slices.
 file-filled : (room work opened rounds : ℕ) (file : List ℕ) (before : List Condition) (x : FileAnswer)
     → x ≡ decide (before ++ at 0 (fileRefusals room file)) (refusedFile room work) (acceptedFile room work opened rounds file) → FilledFile room work x
 file-filled room work opened rounds file before x e =
@@ -287,7 +263,7 @@ file-filled room work opened rounds file before x e =
 
 pub update-filled : (room work : ℕ) (file : List ℕ) (u : Update) → FilledFile room work (update room work file u)
 update-filled room work file u =
-    file-filled room work _ _ (write (remade (rulesIn file) u .rules)) ((ltb work leastWork, (WORK, 0)) ∷ (readConditions file ++ at 0 (updateRefusals (treeOf (rulesIn file)) u)))
+    file-filled room work _ _ (write (remade (fileRules file) u .rules)) ((ltb work leastWork, (WORK, 0)) ∷ (readConditions file ++ at 0 (updateRefusals (treeOf (fileRules file)) u)))
     (update room work file u) (update-is room work file u)
 
 pub pack-filled : (room work : ℕ) (tree : List ℕ) → FilledFile room work (pack room work tree)
@@ -298,5 +274,5 @@ windowAt-filled file p size =
     subst (FilledWindow size) (sym (windowAt-is file p size)) (decide-cases (refusedWindow size) (FilledWindow size) (windowConditions file p size) _
     (λ x k f. record { window-length = length-replicate size 65535; refused-window = λ n. refl })
     (λ h.
-    let fits : p + size ≤ nodes (rulesIn file) = ltb-false (nodes (rulesIn file)) (p + size) (noneHolds-split (readConditions file) ((ltb (nodes (rulesIn file)) (p + size), (POSITION, 0)) ∷ []) h .1 .0) in
+    let fits : p + size ≤ nodes (fileRules file) = ltb-false (nodes (fileRules file)) (p + size) (noneHolds-split (readConditions file) ((ltb (nodes (fileRules file)) (p + size), (POSITION, 0)) ∷ []) h .1 .0) in
     record { window-length = simp (length-take, length-drop) (omega arith); refused-window = λ n. absurd (n refl) }))

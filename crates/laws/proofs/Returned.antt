@@ -6,10 +6,10 @@ use mathlib.Core.Path.{_≡_, refl, sym, ap, subst, _∙_}
 use mathlib.Core.Bool.{false, not, _&&_}
 use mathlib.Core.List.{List, [], _∷_, _++_, append-nil}
 use native.Mathlib.Omega.{arith}
-use borrow.Author.Tests.{leb-false, ltb-false, eqb-false}
+use borrow.Author.Tests.{leb-false, ltb-false, eqb-false, le-ltb}
 use lib.Dec.{T, leb, ltb, eqb, ltb→lt, leb→le}
 use lib.ListN.{length, getD, replicate}
-use lib.Seq.{take-append-seam}
+use lib.Seq.{take-append-seam, take-all}
 use mir.Facts.{and-yes}
 use Rattle.model.specs.Words.{isTreeWord, isParameter, isLabel}
 use Rattle.model.specs.Trees.{Rule, all, those, isPlainTree, isLegal, expand, expansions, ranksOf, startOf, treeOf, nodes, largestSize}
@@ -18,13 +18,15 @@ use Rattle.model.specs.File.{read, write, largestFile}
 use Rattle.model.specs.Edits.{Edit, rename, insert, delete, Update, edited, updated, added, took}
 use Rattle.model.specs.Opening.{Opened, openedAt}
 use Rattle.model.specs.Dropping.{dropped}
-use Rattle.model.specs.Answers.{acceptedFile, countedAs, refusedFile, wantsElement, labelAllowed, fragmentAllowed, treeAllowed, longestFragment, longestTree, updateRefusals, fileRefusals, packRefusals, withStart, editedStart, remade, update, packed, pack}
+use Rattle.model.specs.Answers.{acceptedFile, countedAs, windowAs, refusedFile, wantsElement, labelAllowed, fragmentAllowed, treeAllowed, longestFragment, longestTree, updateRefusals, fileRefusals, packRefusals, withStart, editedStart, remade, update, packed, pack}
 use Rattle.laws.specs.Formed.{formed, Tree, bodyAt}
 use Rattle.laws.specs.Orders.{Suits, SuitsAs}
-use Rattle.laws.specs.Conditions.{NoneHolds, at, readConditions, updateConditions, packConditions, rulesIn}
-use Rattle.laws.specs.Returned.{fileOf, countIs, UpdateReturns, PackReturns}
+use Rattle.laws.specs.Conditions.{NoneHolds, at, readConditions, updateConditions, packConditions, fileRules}
+use Rattle.laws.specs.Published.{BinaryTree, wordsOf, treeIn, published}
+use Rattle.laws.specs.Steps.{Repacks}
+use Rattle.laws.specs.Returned.{fileOf, windowIs, Expands, UpdateReturns, PackReturns}
 use Rattle.laws.proofs.Classes.{explicit-legal, explicit-closed}
-use Rattle.laws.proofs.Grammar.{RuleOf, of-rules, formed-env, expansion-tree, Taken, tree-plain}
+use Rattle.laws.proofs.Grammar.{RuleOf, of-rules, formed-parts, formed-env, expansion-tree, Taken, tree-plain}
 use Rattle.laws.proofs.Opening.{OpenedFrom, opened-from, open-keeps-tree, opened-falls, opened-word}
 use Rattle.laws.proofs.Editing.{plain-tree, expand-before, all-closed, edit-keeps-tree, edit-keeps-legal, edit-keeps-closed, edit-is-update, suits-same, edit-length}
 use Rattle.laws.proofs.WithStart.{closed-not-alone, with-start-formed, with-start-tree}
@@ -40,6 +42,8 @@ use Rattle.laws.proofs.Lists.{all-imp}
 use Rattle.laws.proofs.Tests.{passed}
 use Rattle.laws.proofs.Reading.{read-taken}
 use Rattle.laws.proofs.Edited.{updated-length}
+use Rattle.laws.proofs.Published.{OneTree, plain-one, published-words}
+use Rattle.laws.proofs.Steps.{repacked-repacks}
 
 -- the grammar that the steps make of a grammar and an update that has its place in its tree
 module _ (rules : List Rule) (f : T (formed rules)) (u : Update) (s : Suits (treeOf rules) u) where
@@ -103,6 +107,22 @@ module _ (rules : List Rule) (f : T (formed rules)) (u : Update) (s : Suits (tre
       (λ j h. let (m, above, in-it, c) = dropped-called (withStart (editedStart rules u) rules) start-formed j h in
       (m, above, in-it, called-word j (bodyAt (dropped (withStart (editedStart rules u) rules)) m) c))
 
+  pub remade-repacks : Repacks (dropped (withStart (editedStart rules u) rules)) (remade rules u .rounds) (remade rules u .rules)
+  unfolding remade
+  remade-repacks = repacked-repacks (dropped (withStart (editedStart rules u) rules)) (formed-parts (dropped (withStart (editedStart rules u) rules)) kept-formed .not-many)
+
+-- a file that is taken expands to its grammar's tree
+pub file-expands : (file : List ℕ) (rules : List Rule) → read file ≡ taken rules → (tree : List ℕ) → treeOf rules ≡ tree → Expands file tree
+file-expands file rules reads tree e =
+    subst (Expands file) e
+    (record {
+      count = ap countedAs reads;
+      window = ap (windowAs 0 n) reads ∙ rw (le-ltb n (0 + n) (omega arith), windowAs) (ap windowIs (take-all n (treeOf rules) (omega arith)));
+    })
+  where
+    n : ℕ
+    n = length (treeOf rules)
+
 -- a grammar is one that the reader takes if every rule but its start is called and N is within the bounds
 called-taken : (rules : List Rule) → T (formed rules) → AllCalled rules → nodes rules ≤ largestSize → (nodes rules ≡ 1 → ⊥) → Taken rules
 called-taken rules f called small more =
@@ -126,15 +146,15 @@ pub update-returns : (room work : ℕ) (file : List ℕ) (u : Update) → update
 update-returns room work file u ok = subst (UpdateReturns file u) (sym is) returned
   where
     old : List Rule
-    old = rulesIn file
+    old = fileRules file
 
     none-holds : NoneHolds (updateConditions room work file u)
     none-holds = update-exactly room work file u .accepted-iff .0 ok
 
-    is : update room work file u ≡ updatedFile room work (rulesIn file) u
-    is = update-is room work file u ∙ decide-none (refusedFile room work) (updateConditions room work file u) (updatedFile room work (rulesIn file) u) none-holds
+    is : update room work file u ≡ updatedFile room work (fileRules file) u
+    is = update-is room work file u ∙ decide-none (refusedFile room work) (updateConditions room work file u) (updatedFile room work (fileRules file) u) none-holds
 
-    returned : UpdateReturns file u (updatedFile room work (rulesIn file) u)
+    returned : UpdateReturns file u (updatedFile room work (fileRules file) u)
     returned =
         let r = noneHolds-split (readConditions file ++ at 0 (updateRefusals (treeOf old) u)) (at 0 (fileRefusals room (write (remade old u .rules)))) (none-holds .1) in
         let q = noneHolds-split (readConditions file) (at 0 (updateRefusals (treeOf old) u)) (r .0) in
@@ -150,20 +170,26 @@ update-returns room work file u ok = subst (UpdateReturns file u) (sym is) retur
         (omega (arith, same, ltb-false largestSize (length (updated u (treeOf old))) (c .1 .1 .1 .1 .1 .0)))
         (λ one. eqb-false (length (updated u (treeOf old))) 1 (c .1 .1 .1 .1 .0) (sym same ∙ one)))
         (ltb-false largestFile (length (write (remade old u .rules))) (r .1 .0)) in
+        let t : BinaryTree = treeIn (treeOf old) in
+        let one : OneTree (treeOf old) = plain-one (treeOf old) (tree-plain old f) in
+        let made : wordsOf (published u t) ≡ updated u (treeOf old) =
+        published-words t (one .is-labelled) u (rw (one .words) s) ∙ ap (updated u) (one .words) in
         record {
+          tree = t;
+          is-labelled = one .is-labelled;
+          old-tree = file-expands file old reads (wordsOf t) (sym (one .words));
+          new-tree = file-expands (fileOf (updatedFile room work old u)) (remade old u .rules) back (wordsOf (published u t)) (remade-tree old f u s ∙ sym made);
           old = old;
           new = remade old u .rules;
           reads = reads;
           suits = s;
           written = front;
           reads-back = back;
-          counted-again = ap countedAs back ∙ ap countIs same;
           nodes-are = ap (λ n. n + took (treeOf old) u) same ∙ updated-length (treeOf old) u (tree-plain old f) s;
           tree-is = remade-tree old f u s;
-          new-is = refl;
           opened-is = refl;
           opened-once = opened-falls old f (u .at) (s .0) .0;
-          rounds-is = refl;
+          repacks = remade-repacks old f u s;
         }
 
 -- "Packing: the tree becomes the body of a single rule."
@@ -200,6 +226,10 @@ module _ (tree : List ℕ) (plain : T (isPlainTree tree)) where
   unfolding packed
   packed-tree = rounds-keep-tree (single tree) single-formed ∙ single-tree
 
+  packed-repacks : Repacks (single tree) (packed tree .rounds) (packed tree .rules)
+  unfolding packed
+  packed-repacks = repacked-repacks (single tree) (omega arith)
+
   packed-called : AllCalled (packed tree .rules)
   unfolding packed
   packed-called = rounds-called (single tree) single-formed (λ j h. absurd (omega arith))
@@ -228,12 +258,11 @@ pack-returns room work tree ok = subst (PackReturns tree) (sym is) returned
         (λ one. omega (arith, same, ltb→lt 1 (length tree) more)))
         (ltb-false largestFile (length (write (packed tree .rules))) (r .1 .0)) in
         record {
+          new-tree = file-expands (fileOf (acceptedFile room work 0 (packed tree .rounds) (write (packed tree .rules)))) (packed tree .rules) back tree (packed-tree tree plain);
           new = packed tree .rules;
           written = front;
           reads-back = back;
-          counted-again = ap countedAs back ∙ ap countIs same;
           tree-is = packed-tree tree plain;
-          new-is = refl;
           opened-is = refl;
-          rounds-is = refl;
+          repacks = packed-repacks tree plain;
         }

@@ -64,8 +64,8 @@ abbrev pub rulesFrom : ℕ → List Rule → List ℕ → List Rule
 rulesFrom zero rules bytes = rules
 rulesFrom (suc due) rules bytes = rulesFrom due (rules ++ ruleIn bytes ∷ []) (afterRecord bytes)
 
-unfoldable pub rulesIn : List ℕ → List Rule
-rulesIn file = rulesFrom (ruleCount file) [] (afterRecord file)
+unfoldable pub fileRules : List ℕ → List Rule
+fileRules file = rulesFrom (ruleCount file) [] (afterRecord file)
 
 -- the checker and the counter: "9; then record by record; then 8, 10 (lowest rule), 11"
 unfoldable pub readConditions : List ℕ → List Condition
@@ -75,18 +75,18 @@ readConditions file =
 
 -- the queries: "12: p is N or more; window: p plus its length is over N"
 abbrev pub labelConditions : List ℕ → ℕ → List Condition
-labelConditions file p = readConditions file ++ (leb (nodes (rulesIn file)) p, (POSITION, 0)) ∷ []
+labelConditions file p = readConditions file ++ (leb (nodes (fileRules file)) p, (POSITION, 0)) ∷ []
 
 abbrev pub windowConditions : List ℕ → ℕ → ℕ → List Condition
-windowConditions file p size = readConditions file ++ (ltb (nodes (rulesIn file)) (p + size), (POSITION, 0)) ∷ []
+windowConditions file p size = readConditions file ++ (ltb (nodes (fileRules file)) (p + size), (POSITION, 0)) ∷ []
 
 -- the updater: "20; 9; then record by record; then 8, 10, 11; then 12 to 19 as numbered, each where the update has it"
 abbrev pub updateConditions : ℕ → ℕ → List ℕ → Update → List Condition
 updateConditions room work file u =
     (ltb work leastWork, (WORK, 0))
     ∷ (readConditions file
-    ++ at 0 (updateRefusals (treeOf (rulesIn file)) u)
-    ++ at 0 (fileRefusals room (write (remade (rulesIn file) u .rules))))
+    ++ at 0 (updateRefusals (treeOf (fileRules file)) u)
+    ++ at 0 (fileRefusals room (write (remade (fileRules file) u .rules))))
 
 -- "Packing: 20, 15, 18, 19."
 abbrev pub packConditions : ℕ → ℕ → List ℕ → List Condition
@@ -124,6 +124,7 @@ pub record Exactly (conditions : List Condition) (a : Answer) : Type 0 where
   pub ends : (a .number ≡ 0) ⊎ ((x : Refusal) × (a .number ≡ numberOf x))
   pub once : (x y : Refusal) → a .number ≡ numberOf x → a .number ≡ numberOf y → x ≡ y
   pub accepted-iff : (a .number ≡ 0) ↔ NoneHolds conditions
+  pub accepted-place : a .number ≡ 0 → a .place ≡ 0
   pub refused-iff : (x : Refusal) → (a .number ≡ numberOf x) ↔ ((k : ℕ) × First (x, k) conditions)
   pub refused-as : (x : Refusal) (k : ℕ) → First (x, k) conditions → a ≡ refusal x k
 
@@ -141,7 +142,3 @@ pub record FilledFile (room work : ℕ) (x : FileAnswer) : Type 0 where
 pub record FilledWindow (size : ℕ) (x : WindowAnswer) : Type 0 where
   pub window-length : length (x .window) ≡ size
   pub refused-window : x .answer .number ≢ 0 → x .window ≡ replicate size 65535
-
--- what equals m is settled
-abbrev pub Unique : {A : Type 0} → A → Type 0
-Unique {A} m = (a b : A) → a ≡ m → b ≡ m → a ≡ b

@@ -5,5 +5,6 @@ pub mod Conditions
 pub mod Published
 pub mod Steps
 pub mod Returned
+pub mod Conforming
 pub mod Runs
 pub mod Work

@@ -2,52 +2,65 @@
 use Prim.Native.Nat.{ℕ, _+_, _-_, _<_}
 use mathlib.Core.Path.{_≡_}
 use mathlib.Core.List.{List, [], _∷_}
+use lib.Dec.{T}
 use lib.ListN.{length, take}
 use Rattle.model.specs.Trees.{Rule, treeOf, nodes}
 use Rattle.model.specs.Refusals.{taken}
 use Rattle.model.specs.File.{read, write}
 use Rattle.model.specs.Edits.{Update, updated, added, took}
 use Rattle.model.specs.Opening.{openedAt}
-use Rattle.model.specs.Answers.{FileAnswer, CountAnswer, accepted, counted, remade, packed}
+use Rattle.model.specs.Dropping.{dropped}
+use Rattle.model.specs.Answers.{FileAnswer, CountAnswer, WindowAnswer, accepted, counted, windowAt, withStart, editedStart}
 use Rattle.laws.specs.Orders.{Suits}
+use Rattle.laws.specs.Published.{BinaryTree, wordsOf, labelled, published}
+use Rattle.laws.specs.Steps.{Repacks}
 
 -- the file that is returned: as many bytes of the result buffer as were written
 abbrev pub fileOf : FileAnswer → List ℕ
 fileOf x = take (x .answer .length) (x .result)
 
--- the counter's answer to a file that it takes
+-- the counter's answer to a file that it takes, and the window expander's
 abbrev pub countIs : ℕ → CountAnswer
 countIs n = record { answer = accepted 0 0 0; nodes = n }
+
+abbrev pub windowIs : List ℕ → WindowAnswer
+windowIs words = record { answer = accepted 0 0 0; window = words }
+
+-- "expands to": the counter answers N, and the window of N words from 0 on is filled with the tree's words
+pub record Expands (file tree : List ℕ) : Type 0 where
+  pub count : counted file ≡ countIs (length tree)
+  pub window : windowAt file 0 (length tree) ≡ windowIs tree
 
 -- "The rule numbers opened fall strictly, so each is opened at most once": numbers that fall, the first of them below b
 abbrev pub Falls : ℕ → List ℕ → Type 0
 Falls b [] = Unit {0}
 Falls b (j ∷ js) = (j < b) × Falls j js
 
--- The file given is a grammar's in whose tree the update has its place. The file returned is taken again, with N as the update says, and its tree is the old tree with the
--- update made in it. The grammar and the counts are those of the steps: opening, edit, dropping and rounds.
+-- The file given expands to a tree, and the file returned to the published update of that tree. Behind it, the grammars that the two files are, with the model's update on words, and
+-- the steps: rules opened, and rounds from what opening, edit and dropping leave.
 pub record UpdateReturns (file : List ℕ) (u : Update) (x : FileAnswer) : Type 0 where
+  pub tree : BinaryTree
+  pub is-labelled : T (labelled tree)
+  pub old-tree : Expands file (wordsOf tree)
+  pub new-tree : Expands (fileOf x) (wordsOf (published u tree))
   pub old : List Rule
   pub new : List Rule
   pub reads : read file ≡ taken old
   pub suits : Suits (treeOf old) u
   pub written : fileOf x ≡ write new
   pub reads-back : read (fileOf x) ≡ taken new
-  pub counted-again : counted (fileOf x) ≡ countIs (length (updated u (treeOf old)))
   pub nodes-are : nodes new + took (treeOf old) u ≡ nodes old + added (u .edit)
   pub tree-is : treeOf new ≡ updated u (treeOf old)
-  pub new-is : new ≡ remade old u .rules
   pub opened-is : x .answer .opened ≡ length (openedAt old (u .at) .opened)
   pub opened-once : Falls (length old - 1) (openedAt old (u .at) .opened)
-  pub rounds-is : x .answer .rounds ≡ remade old u .rounds
+  pub repacks : Repacks (dropped (withStart (editedStart old u) old)) (x .answer .rounds) new
 
--- The file returned is taken again, and its tree is the one that was to be packed.
+-- The file returned expands to the tree that was to be packed; the rounds are those from a single rule.
 pub record PackReturns (tree : List ℕ) (x : FileAnswer) : Type 0 where
+  pub new-tree : Expands (fileOf x) tree
   pub new : List Rule
   pub written : fileOf x ≡ write new
   pub reads-back : read (fileOf x) ≡ taken new
-  pub counted-again : counted (fileOf x) ≡ countIs (length tree)
   pub tree-is : treeOf new ≡ tree
-  pub new-is : new ≡ packed tree .rules
   pub opened-is : x .answer .opened ≡ 0
-  pub rounds-is : x .answer .rounds ≡ packed tree .rounds
+  pub repacks : Repacks (record { rank = 0; body = tree } ∷ []) (x .answer .rounds) new
