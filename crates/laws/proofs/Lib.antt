@@ -11,6 +11,7 @@ pub mod Program
 -- Demand 2: what accepted calls return, and the words that the work area has to hold.
 pub mod Returned
 pub mod Recorded
+pub mod Conforming
 pub mod Work
 -- Demand 3: several updates, on trees and on files.
 pub mod Apart

@@ -43,7 +43,7 @@ use Rattle.laws.proofs.Tests.{passed}
 use Rattle.laws.proofs.Reading.{read-taken}
 use Rattle.laws.proofs.Edited.{updated-length}
 use Rattle.laws.proofs.Published.{OneTree, plain-one, published-words}
-use Rattle.laws.proofs.Steps.{repacked-repacks}
+use Rattle.laws.proofs.Steps.{repacked-repacks, repacks-repacked}
 
 -- the grammar that the steps make of a grammar and an update that has its place in its tree
 module _ (rules : List Rule) (f : T (formed rules)) (u : Update) (s : Suits (treeOf rules) u) where
@@ -110,6 +110,12 @@ module _ (rules : List Rule) (f : T (formed rules)) (u : Update) (s : Suits (tre
   pub remade-repacks : Repacks (dropped (withStart (editedStart rules u) rules)) (remade rules u .rounds) (remade rules u .rules)
   unfolding remade
   remade-repacks = repacked-repacks (dropped (withStart (editedStart rules u) rules)) (formed-parts (dropped (withStart (editedStart rules u) rules)) kept-formed .not-many)
+
+  -- and no other chain of rounds comes from there
+  pub remade-made : (n : ℕ) (last : List Rule) → Repacks (dropped (withStart (editedStart rules u) rules)) n last → (remade rules u .rules ≡ last) × (remade rules u .rounds ≡ n)
+  unfolding remade
+  remade-made n last r =
+      repacks-repacked (dropped (withStart (editedStart rules u) rules)) n last (formed-parts (dropped (withStart (editedStart rules u) rules)) kept-formed .not-many) r
 
 -- a file that is taken expands to its grammar's tree
 pub file-expands : (file : List ℕ) (rules : List Rule) → read file ≡ taken rules → (tree : List ℕ) → treeOf rules ≡ tree → Expands file tree
@@ -233,6 +239,10 @@ module _ (tree : List ℕ) (plain : T (isPlainTree tree)) where
   packed-called : AllCalled (packed tree .rules)
   unfolding packed
   packed-called = rounds-called (single tree) single-formed (λ j h. absurd (omega arith))
+
+pub packed-made : (tree : List ℕ) (n : ℕ) (last : List Rule) → Repacks (single tree) n last → (packed tree .rules ≡ last) × (packed tree .rounds ≡ n)
+unfolding packed
+packed-made tree n last r = repacks-repacked (single tree) n last (omega arith) r
 
 -- a packed file reads back as the tree
 pub pack-returns : (room work : ℕ) (tree : List ℕ) → pack room work tree .answer .number ≡ 0 → PackReturns tree (pack room work tree)
