@@ -15,7 +15,7 @@ use Rattle.model.specs.Trees.{all, join, fold, put, isTree, isPlainTree}
 use Rattle.model.specs.Edits.{Edit, rename, insert, delete, Update, updated}
 use Rattle.laws.specs.Formed.{height, Fits, Tree}
 use Rattle.laws.specs.Orders.{Plain, Suits, SuitsAs}
-use Rattle.laws.specs.Published.{BinaryTree, emptyTree, element, wordsOf, labelled, replacedAt, relabelled, deleted, insertedBefore, over, treeIn, publishedAs, published}
+use Rattle.laws.specs.Published.{BinaryTree, emptyTree, element, wordsOf, labelled, replacedAt, relabelled, deleted, insertedBefore, over, treeIn, OneTree, publishedAs, published}
 use Rattle.laws.proofs.Folds.{length-fold, fold-append, tree-over, tree-isTree, isTree-tree}
 use Rattle.laws.proofs.Classes.{label-rank, label-explicit, element-label}
 use Rattle.laws.proofs.Lists.{all-cons, all-append}
@@ -112,12 +112,7 @@ words-plain (element l t₁ t₂) h =
     both p q (suc zero) k = q .tree
     both p q (suc (suc i)) k = absurd (omega arith)
 
--- "A tree is written as its labels in preorder": every plain list of words is the words of exactly one tree
-pub record OneTree (ws : List ℕ) : Type 0 where
-  pub words : wordsOf (treeIn ws) ≡ ws
-  pub is-labelled : T (labelled (treeIn ws))
-  pub only : (t : BinaryTree) → T (labelled t) → wordsOf t ≡ ws → t ≡ treeIn ws
-
+-- so every plain list of words is the words of exactly one tree
 pub plain-one : (ws : List ℕ) → Plain ws → OneTree ws
 plain-one ws p =
     record { words = plain-read ws p .0; is-labelled = plain-read ws p .1; only = λ t h e. sym (tree-words t h) ∙ ap treeIn e }

@@ -22,7 +22,7 @@ use Rattle.model.specs.Answers.{acceptedFile, countedAs, windowAs, refusedFile,
 use Rattle.laws.specs.Formed.{formed, Tree, bodyAt}
 use Rattle.laws.specs.Orders.{Suits, SuitsAs}
 use Rattle.laws.specs.Conditions.{NoneHolds, at, readConditions, updateConditions, packConditions, fileRules}
-use Rattle.laws.specs.Published.{BinaryTree, wordsOf, treeIn, published}
+use Rattle.laws.specs.Published.{BinaryTree, wordsOf, treeIn, OneTree, published}
 use Rattle.laws.specs.Steps.{Repacks}
 use Rattle.laws.specs.Returned.{fileOf, windowIs, Expands, UpdateReturns, PackReturns}
 use Rattle.laws.proofs.Classes.{explicit-legal, explicit-closed}
@@ -42,7 +42,7 @@ use Rattle.laws.proofs.Lists.{all-imp}
 use Rattle.laws.proofs.Tests.{passed}
 use Rattle.laws.proofs.Reading.{read-taken}
 use Rattle.laws.proofs.Edited.{updated-length}
-use Rattle.laws.proofs.Published.{OneTree, plain-one, published-words}
+use Rattle.laws.proofs.Published.{plain-one, published-words}
 use Rattle.laws.proofs.Steps.{repacked-repacks, repacks-repacked}
 
 -- the grammar that the steps make of a grammar and an update that has its place in its tree

@@ -1,7 +1,7 @@
 -- Files and updates that meet the premises of the demands and of the laws of the steps, by computation: document 01's G, three updates of it in another order than listed, and 20
 -- siblings to pack.
 use Prim.Native.Nat.{ℕ, _≤_}
-use mathlib.Core.Path.{_≡_, refl, _∙_}
+use mathlib.Core.Path.{_≡_, refl, subst}
 use mathlib.Core.List.{List, [], _∷_, _++_}
 use mathlib.Core.Option.{some}
 use lib.Dec.{T}
@@ -23,12 +23,12 @@ use Rattle.laws.specs.Orders.{Suits, Reordered, keep, swap, twice}
 use Rattle.laws.specs.Runs.{Call, asked, AllAccepted, lastFile}
 use Rattle.laws.specs.Steps.{Passes, start, round}
 use Rattle.laws.specs.Work.{bodyWords, UpdateWords}
-use Rattle.laws.specs.Returned.{UpdateReturns, PackReturns, fileOf}
+use Rattle.laws.specs.Returned.{Expands, UpdateReturns, PackReturns, fileOf}
 use Rattle.laws.proofs.Written.{Below, write-bytes}
-use Rattle.laws.proofs.Returned.{single}
+use Rattle.laws.proofs.Returned.{single, file-expands}
 use Rattle.laws.proofs.Steps.{choice-unbeaten}
 use Rattle.laws.proofs.Work.{taken-short, update-words, pack-words}
-use Rattle.laws.proofs.Demands.{demand-2, demand-2-packing, demand-2-program, demand-3}
+use Rattle.laws.proofs.Demands.{demand-2, demand-2-packing, program-writes-file, demand-3}
 
 -- "G: rule 0, rank 1, 0002 0003 0000 0000 8001; rule 1, rank 0, 0001 C000 C000 0000 0000"
 abbrev rules : List Rule
@@ -132,12 +132,12 @@ packed-one = demand-2-packing 64 32768 (1 ∷ 0 ∷ 0 ∷ []) pack-accepted
 
 pub recorded-G : (answerIn (program request) ≡ update largestFile leastWork G renaming .answer) × (afterRecord (program request) ≡ fileOf (update largestFile leastWork G renaming))
 unfolding write
-recorded-G = demand-2-program request program-accepted
+recorded-G = program-writes-file request program-accepted
 
-pub ordered-G : (last : List Rule) × (read (lastFile (treeOf rules) [] G calls) ≡ taken last) × (treeOf last ≡ 1 ∷ 2 ∷ 4 ∷ 0 ∷ 0 ∷ 4 ∷ 0 ∷ 0 ∷ 0 ∷ [])
+pub ordered-G : Expands (lastFile (treeOf rules) [] G calls) (1 ∷ 2 ∷ 4 ∷ 0 ∷ 0 ∷ 4 ∷ 0 ∷ 0 ∷ 0 ∷ [])
 ordered-G =
-    let (last, reads, tree) = demand-3 G rules reads-G (deleting ∷ renaming ∷ inserting ∷ []) all-apart calls other-order all-accepted in
-    (last, reads, tree ∙ all-made)
+    subst (Expands (lastFile (treeOf rules) [] G calls)) all-made
+    (demand-3 G (treeOf rules) (file-expands G rules reads-G (treeOf rules) refl) (deleting ∷ renaming ∷ inserting ∷ []) all-apart calls other-order all-accepted)
 
 pub words-G : UpdateWords rules inserting
 words-G = update-words rules formed-G (taken-short G rules bytes-G reads-G) inserting (suits-G .0) (suits-G .1)

@@ -1,8 +1,9 @@
 -- Source document 001 on trees: what section 4.1's updates make of a tree l(t1, t2). "Source document 001 decides what an update means."
 use Prim.Native.Nat.{ℕ, zero, suc, _-_}
+use mathlib.Core.Path.{_≡_}
 use mathlib.Core.Bool.{Bool, true, cond, _&&_}
 use mathlib.Core.List.{List, [], _∷_, _++_}
-use lib.Dec.{ltb}
+use lib.Dec.{T, ltb}
 use lib.ListN.{length, getD}
 use Rattle.model.specs.Words.{isLabel, rankOf}
 use Rattle.model.specs.Trees.{fold}
@@ -58,6 +59,12 @@ over w (t₁ ∷ t₂ ∷ ts) = element w t₁ t₂
 
 abbrev pub treeIn : List ℕ → BinaryTree
 treeIn ws = getD (fold (rankOf []) over ws []) 0 emptyTree
+
+-- "A tree is written as its labels in preorder, one 16-bit word each." Words that are one tree's are no other's: `treeIn` finds it.
+pub record OneTree (ws : List ℕ) : Type 0 where
+  pub words : wordsOf (treeIn ws) ≡ ws
+  pub is-labelled : T (labelled (treeIn ws))
+  pub only : (t : BinaryTree) → T (labelled t) → wordsOf t ≡ ws → t ≡ treeIn ws
 
 -- the published update of t_p, and of the tree, at the node with preorder number p
 abbrev pub publishedAs : Edit → BinaryTree → BinaryTree
