@@ -13,14 +13,15 @@ use Rattle.model.specs.Edits.{Update, updated, allAtOnce, apart}
 use Rattle.model.specs.Answers.{checked, counted, labelAt, windowAt, update, pack, leastWork}
 use Rattle.model.specs.Program.{runOn, program, updateIn}
 use Rattle.laws.specs.Conditions.{Exactly, FilledFile, FilledWindow, readConditions, labelConditions, windowConditions, updateConditions, packConditions, programConditions, answerIn}
-use Rattle.laws.specs.Orders.{Suits, Reordered}
-use Rattle.laws.specs.Published.{BinaryTree, wordsOf, labelled, OneTree, published}
+use Rattle.laws.specs.Orders.{Suits, AllSuit, Reordered}
+use Rattle.laws.specs.Published.{BinaryTree, wordsOf, labelled, OneTree, published, allPublished}
 use Rattle.laws.specs.Returned.{Expands, UpdateReturns, PackReturns, fileOf}
 use Rattle.laws.specs.Runs.{Call, asked, AllAccepted, lastFile}
 use Rattle.laws.specs.Conforming.{CheckConforms, CountConforms, LabelConforms, WindowConforms, UpdateConforms, PackConforms, ProgramConforms, Settles}
 use Rattle.laws.proofs.Refusals.{checked-exactly, counted-exactly, labelAt-exactly, windowAt-exactly, update-exactly, pack-exactly, windowAt-filled, update-filled, pack-filled}
 use Rattle.laws.proofs.Program.{program-exactly, enough, program-record, program-never-empty}
 use Rattle.laws.proofs.Published.{one-tree, published-words}
+use Rattle.laws.proofs.PublishedAtOnce.{at-once-words}
 use Rattle.laws.proofs.Returned.{update-returns, pack-returns}
 use Rattle.laws.proofs.Recorded.{program-recorded}
 use Rattle.laws.proofs.Runs.{ran-in-any-order}
@@ -73,6 +74,10 @@ pub demand-3 : (file base : List ℕ) → Expands file base
     → AllAccepted base [] file calls
     → Expands (lastFile base [] file calls) (allAtOnce us base)
 demand-3 = ran-in-any-order
+
+-- "Several at once: in one pass over the base's words": the words of the base with source document 001's updates made on the tree, node by node.
+pub published-at-once : (t : BinaryTree) → T (labelled t) → (us : List Update) → AllSuit (wordsOf t) us → T (apart (wordsOf t) us) → wordsOf (allPublished us 0 t) ≡ allAtOnce us (wordsOf t)
+published-at-once = at-once-words
 
 -- Document 01, the program: "It reads at most 20,495 bytes, enough to decide every answer."
 pub program-reads-enough : (input : List ℕ) → program input ≡ runOn input

@@ -18,6 +18,7 @@ pub mod Apart
 pub mod Spans
 pub mod Edited
 pub mod Published
+pub mod PublishedAtOnce
 pub mod Several
 pub mod Runs
 -- Words and lists.

@@ -30,7 +30,7 @@ unfolding classOf
 empty-explicit = tt
 
 -- a label over trees that are labelled
-labels : (l : ℕ) (t₁ t₂ : BinaryTree) → T (labelled (element l t₁ t₂)) → T (isLabel l) × T (labelled t₁) × T (labelled t₂)
+pub labels : (l : ℕ) (t₁ t₂ : BinaryTree) → T (labelled (element l t₁ t₂)) → T (isLabel l) × T (labelled t₁) × T (labelled t₂)
 labels l t₁ t₂ t =
     let (front, second) = and-yes (isLabel l && labelled t₁) (labelled t₂) t in
     let (here, first) = and-yes (isLabel l) (labelled t₁) front in
@@ -124,20 +124,20 @@ pub words-plain-tree : (t : BinaryTree) → T (labelled t) → T (isPlainTree (w
 words-plain-tree t h = let p = words-plain t h in yes-and (all isTreeWord (wordsOf t)) (isTree [] (wordsOf t)) (p .words) (tree-isTree [] (wordsOf t) (p .tree))
 
 -- The subtree at a node, with the words before it and behind it, whatever is put in its place.
-record Around (t : BinaryTree) (p : ℕ) : Type 0 where
-  before : List ℕ
-  here : BinaryTree
-  behind : List ℕ
-  place : length before ≡ p
-  is-labelled : T (labelled here)
-  words : wordsOf t ≡ before ++ (wordsOf here ++ behind)
-  made : (f : BinaryTree → BinaryTree) → wordsOf (replacedAt f t p) ≡ before ++ (wordsOf (f here) ++ behind)
+pub record Around (t : BinaryTree) (p : ℕ) : Type 0 where
+  pub before : List ℕ
+  pub here : BinaryTree
+  pub behind : List ℕ
+  pub place : length before ≡ p
+  pub is-labelled : T (labelled here)
+  pub words : wordsOf t ≡ before ++ (wordsOf here ++ behind)
+  pub made : (f : BinaryTree → BinaryTree) → wordsOf (replacedAt f t p) ≡ before ++ (wordsOf (f here) ++ behind)
 
 around-root : (t : BinaryTree) → T (labelled t) → ((f : BinaryTree → BinaryTree) → replacedAt f t 0 ≡ f t) → Around t 0
 around-root t h e =
     record { before = []; here = t; behind = []; place = refl; is-labelled = h; words = sym (append-nil (wordsOf t)); made = λ f. ap wordsOf (e f) ∙ sym (append-nil (wordsOf (f t))) }
 
-around : (t : BinaryTree) → T (labelled t) → (p : ℕ) → p < length (wordsOf t) → Around t p
+pub around : (t : BinaryTree) → T (labelled t) → (p : ℕ) → p < length (wordsOf t) → Around t p
 around emptyTree h zero b = around-root emptyTree h (λ f. refl)
 around emptyTree h (suc p) b = absurd (omega arith)
 around (element l t₁ t₂) h zero b = around-root (element l t₁ t₂) h (λ f. refl)
@@ -180,7 +180,7 @@ around (element l t₁ t₂) h (suc p) b =
         }
 
 -- all words of a tree but the last, which is ⊥
-front : BinaryTree → List ℕ
+pub front : BinaryTree → List ℕ
 front emptyTree = []
 front (element l t₁ t₂) = l ∷ wordsOf t₁ ++ front t₂
 
@@ -189,12 +189,12 @@ unfolding front
 front-words emptyTree = refl
 front-words (element l t₁ t₂) = ap (λ (vs : List ℕ). l ∷ vs) (ap (λ (vs : List ℕ). wordsOf t₁ ++ vs) (front-words t₂) ∙ sym (append-assoc (wordsOf t₁) (front t₂) (0 ∷ [])))
 
-inserted-words : (s t : BinaryTree) → wordsOf (insertedBefore s t) ≡ front s ++ wordsOf t
+pub inserted-words : (s t : BinaryTree) → wordsOf (insertedBefore s t) ≡ front s ++ wordsOf t
 unfolding front
 inserted-words emptyTree t = refl
 inserted-words (element r t₁ t₂) t = ap (λ (vs : List ℕ). r ∷ vs) (ap (λ (vs : List ℕ). wordsOf t₁ ++ vs) (inserted-words t₂ t) ∙ sym (append-assoc (wordsOf t₁) (front t₂) (wordsOf t)))
 
-front-taken : (s : List ℕ) → Plain s → take (length s - 1) s ≡ front (treeIn s)
+pub front-taken : (s : List ℕ) → Plain s → take (length s - 1) s ≡ front (treeIn s)
 front-taken s p =
     let f = front (treeIn s) in
     let whole : s ≡ f ++ 0 ∷ [] = sym (plain-read s p .0) ∙ front-words (treeIn s) in

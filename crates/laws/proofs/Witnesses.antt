@@ -19,7 +19,8 @@ use Rattle.model.specs.Answers.{update, remade, packed, pack, fragmentAllowed, 
 use Rattle.model.specs.Program.{program}
 use Rattle.laws.specs.Conditions.{answerIn}
 use Rattle.laws.specs.Formed.{formed}
-use Rattle.laws.specs.Orders.{Suits, Reordered, keep, swap, twice}
+use Rattle.laws.specs.Orders.{Suits, AllSuit, Reordered, keep, swap, twice}
+use Rattle.laws.specs.Published.{BinaryTree, emptyTree, element, wordsOf, labelled, published, allPublished}
 use Rattle.laws.specs.Runs.{Call, asked, AllAccepted, lastFile}
 use Rattle.laws.specs.Steps.{Passes, start, round}
 use Rattle.laws.specs.Work.{bodyWords, UpdateWords}
@@ -97,6 +98,30 @@ all-accepted = (refl, (refl, (refl, tt)))
 pub all-made : allAtOnce (deleting ∷ renaming ∷ inserting ∷ []) (treeOf rules) ≡ 1 ∷ 2 ∷ 4 ∷ 0 ∷ 0 ∷ 4 ∷ 0 ∷ 0 ∷ 0 ∷ []
 unfolding classOf
 all-made = refl
+
+-- G's tree, with the three updates as source document 001 has them: each has its place, and made at once they are that tree
+abbrev tree-G : BinaryTree
+tree-G = element 1 (element 2 (element 3 emptyTree emptyTree) (element 2 (element 3 emptyTree emptyTree) emptyTree)) emptyTree
+
+pub labelled-G : T (labelled tree-G) × (wordsOf tree-G ≡ treeOf rules)
+unfolding classOf
+labelled-G = (tt, refl)
+
+pub deleted-G : published deleting tree-G ≡ element 1 (element 2 (element 3 emptyTree emptyTree) emptyTree) emptyTree
+unfolding classOf
+deleted-G = refl
+
+pub inserted-G : published inserting tree-G ≡ element 1 (element 2 (element 3 emptyTree emptyTree) (element 2 (element 3 emptyTree emptyTree) (element 4 emptyTree emptyTree))) emptyTree
+unfolding classOf
+inserted-G = refl
+
+pub all-suit : AllSuit (wordsOf tree-G) (deleting ∷ renaming ∷ inserting ∷ [])
+unfolding classOf
+all-suit = ((omega arith, λ e. omega arith), ((omega arith, (λ e. omega arith, tt)), ((omega arith, tt), tt)))
+
+pub published-G : allPublished (deleting ∷ renaming ∷ inserting ∷ []) 0 tree-G ≡ element 1 (element 2 (element 4 emptyTree emptyTree) (element 4 emptyTree emptyTree)) emptyTree
+unfolding classOf
+published-G = refl
 
 -- the laws of the work area, of opening and of the edit
 pub suits-G : Suits (treeOf rules) inserting × T (fragmentAllowed (inserting .edit))

@@ -67,20 +67,20 @@ rulesFrom (suc due) rules bytes = rulesFrom due (rules ++ ruleIn bytes ∷ []) (
 unfoldable pub fileRules : List ℕ → List Rule
 fileRules file = rulesFrom (ruleCount file) [] (afterRecord file)
 
--- the checker and the counter: "9; then record by record; then 8, 10 (lowest rule), 11"
+-- the checker and the counter: "9; then record by record", "then 8, 10 (lowest rule), 11"
 unfoldable pub readConditions : List ℕ → List Condition
 readConditions file =
     (ltb largestFile (length file), (LARGE, 0))
     ∷ (at 0 (headRefusals file) ++ rulesConditions (ruleCount file) [] (afterRecord file))
 
--- the queries: "12: p is N or more; window: p plus its length is over N"
+-- the queries: 12, "update or label query: p is N or more; window: p plus its length is over N"
 abbrev pub labelConditions : List ℕ → ℕ → List Condition
 labelConditions file p = readConditions file ++ (leb (nodes (fileRules file)) p, (POSITION, 0)) ∷ []
 
 abbrev pub windowConditions : List ℕ → ℕ → ℕ → List Condition
 windowConditions file p size = readConditions file ++ (ltb (nodes (fileRules file)) (p + size), (POSITION, 0)) ∷ []
 
--- the updater: "20; 9; then record by record; then 8, 10, 11; then 12 to 19 as numbered, each where the update has it"
+-- the updater: "20; 9; then record by record", "then 8, 10 (lowest rule), 11; then 12 to 19 as numbered, each where the update has it"
 abbrev pub updateConditions : ℕ → ℕ → List ℕ → Update → List Condition
 updateConditions room work file u =
     (ltb work leastWork, (WORK, 0))
@@ -128,8 +128,8 @@ pub record Exactly (conditions : List Condition) (a : Answer) : Type 0 where
   pub refused-iff : (x : Refusal) → (a .number ≡ numberOf x) ↔ ((k : ℕ) × First (x, k) conditions)
   pub refused-as : (x : Refusal) (k : ℕ) → First (x, k) conditions → a ≡ refusal x k
 
--- The slices lent to an update or a packing: "A refused call fills the whole result buffer with FF; an accepted one fills what follows the file with FF. The
--- work area is all 0 after every call."
+-- The slices lent to an update or a packing: "A refused call fills the whole result buffer with FF; an accepted one fills what follows the file with FF." "The work area is all 0
+-- after every call."
 pub record FilledFile (room work : ℕ) (x : FileAnswer) : Type 0 where
   pub result-length : length (x .result) ≡ room
   pub work-length : length (x .work) ≡ work

@@ -1,9 +1,10 @@
 -- Source document 001 on trees: what section 4.1's updates make of a tree l(t1, t2). "Source document 001 decides what an update means."
-use Prim.Native.Nat.{ℕ, zero, suc, _-_}
+use Prim.Native.Nat.{ℕ, zero, suc, _+_, _-_}
 use mathlib.Core.Path.{_≡_}
 use mathlib.Core.Bool.{Bool, true, cond, _&&_}
 use mathlib.Core.List.{List, [], _∷_, _++_}
-use lib.Dec.{T, ltb}
+use mathlib.Core.Option.{Option, none, some}
+use lib.Dec.{T, ltb, eqb}
 use lib.ListN.{length, getD}
 use Rattle.model.specs.Words.{isLabel, rankOf}
 use Rattle.model.specs.Trees.{fold}
@@ -74,3 +75,17 @@ publishedAs delete t = deleted t
 
 abbrev pub published : Update → BinaryTree → BinaryTree
 published u t = replacedAt (publishedAs (u .edit)) t (u .at)
+
+-- Several at once: "relabel, delete, insert-before, insert-after は、選択頂点を post-order(帰りがけ順)で更新していき" (the selected nodes are updated in postorder): each node of the base after those
+-- below it. p is the number in the base of the tree's root.
+abbrev pub editAt : List Update → ℕ → Option Edit
+editAt [] p = none
+editAt (u ∷ us) p = cond (eqb (u .at) p) (some (u .edit)) (editAt us p)
+
+abbrev pub madeAs : Option Edit → BinaryTree → BinaryTree
+madeAs none t = t
+madeAs (some e) t = publishedAs e t
+
+abbrev pub allPublished : List Update → ℕ → BinaryTree → BinaryTree
+allPublished us p emptyTree = madeAs (editAt us p) emptyTree
+allPublished us p (element l t₁ t₂) = madeAs (editAt us p) (element l (allPublished us (suc p) t₁) (allPublished us (suc p + length (wordsOf t₁)) t₂))
