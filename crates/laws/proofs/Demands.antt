@@ -15,14 +15,14 @@ use Rattle.laws.specs.Conditions.{Exactly, FilledFile, FilledWindow, rea
 use Rattle.laws.specs.Orders.{Reordered}
 use Rattle.laws.specs.Returned.{UpdateReturns, PackReturns, fileOf}
 use Rattle.laws.specs.Runs.{Call, asked, AllAccepted, lastFile}
-use Rattle.laws.proofs.Refusals.{checked-exactly, counted-exactly, labelAt-exactly, windowAt-exactly, update-exactly, pack-exactly, windowAt-filled, update-filled, pack-filled}
-use Rattle.laws.proofs.Program.{program-exactly}
-use Rattle.laws.proofs.Recorded.{program-recorded}
-use Rattle.laws.proofs.Grammar.{tree-plain}
-use Rattle.laws.proofs.Returned.{update-returns, pack-returns}
-use Rattle.laws.proofs.Several.{several}
-use Rattle.laws.proofs.Runs.{ran}
-use Rattle.laws.proofs.Reading.{read-taken}
+use Rattle.laws.proofs.Answers.Refusals.{checked-exactly, counted-exactly, labelAt-exactly, windowAt-exactly, update-exactly, pack-exactly, windowAt-filled, update-filled, pack-filled}
+use Rattle.laws.proofs.Answers.Program.{program-exactly}
+use Rattle.laws.proofs.Answers.Recorded.{program-recorded}
+use Rattle.laws.proofs.Trees.Grammar.{tree-plain}
+use Rattle.laws.proofs.Answers.Returned.{update-returns, pack-returns}
+use Rattle.laws.proofs.Edits.Several.{several}
+use Rattle.laws.proofs.Answers.Runs.{ran}
+use Rattle.laws.proofs.File.Reading.{read-taken}
 
 -- 1. "Every call, on every input, ends in an acceptance or exactly one numbered refusal, given exactly under its stated condition. After a refusal the result buffer holds only
 -- the fill byte; the work area is all 0 after every call."
@@ -30,7 +30,7 @@ pub record Demand1 : Type 0 where
   pub checker : (file : List ℕ) → Exactly (readConditions file) (checked file)
   pub counter : (file : List ℕ) → Exactly (readConditions file) (counted file .answer)
   pub label-query : (file : List ℕ) (p : ℕ) → Exactly (labelConditions file p) (labelAt file p .answer)
-  pub window-expander : (file : List ℕ) (p size : ℕ) → Exactly (windowConditions file p size) (windowAt file p size .answer) × FilledWindow size (windowAt file p size)
+  pub window-expander : (file : List ℕ) (p len : ℕ) → Exactly (windowConditions file p len) (windowAt file p len .answer) × FilledWindow len (windowAt file p len)
   pub updater : (room work : ℕ) (file : List ℕ) (u : Update)
       → Exactly (updateConditions room work file u) (update room work file u .answer) × FilledFile room work (update room work file u)
   pub packer : (room work : ℕ) (tree : List ℕ) → Exactly (packConditions room work tree) (pack room work tree .answer) × FilledFile room work (pack room work tree)
@@ -42,7 +42,7 @@ demand-1 =
       checker = checked-exactly;
       counter = counted-exactly;
       label-query = labelAt-exactly;
-      window-expander = λ file p size. (windowAt-exactly file p size, windowAt-filled file p size);
+      window-expander = λ file p len. (windowAt-exactly file p len, windowAt-filled file p len);
       updater = λ room work file u. (update-exactly room work file u, update-filled room work file u);
       packer = λ room work tree. (pack-exactly room work tree, pack-filled room work tree);
       the-program = program-exactly;
