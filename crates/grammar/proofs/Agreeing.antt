@@ -8,14 +8,14 @@ use lib.Dec.{T, ltb, ltb→lt}
 use borrow.Author.Tests.{ltb-true}
 use lib.ListN.{length, take, getD}
 use lib.Seq.{getD-take, length-take-le}
-use Rattle.model.specs.Words.{Class, empty, label, parameter, call, illegal, classOf, byClass, rankOf}
-use Rattle.model.specs.Trees.{all, isLegal, size}
+use Rattle.model.specs.Words.{Class, empty, label, parameter, call, illegal, classOf, rankOf, rankAs}
+use Rattle.model.specs.Trees.{all, isLegal, size, isLegalAs}
 use Rattle.laws.specs.Formed.{Env}
-use Rattle.laws.specs.Sums.{sumOf, ownSize, sizeBefore, ownBefore, depthOf, beforePlace}
-use Rattle.laws.proofs.Lists.{all-cons}
-use Rattle.laws.proofs.Legal.{rank-agree}
-use Rattle.laws.proofs.Sizes.{length-gaps, env-gaps}
-use Rattle.laws.proofs.Before.{before-last}
+use Rattle.laws.specs.Sums.{sumOf, ownSize, sizeBefore, ownBefore, depthOf, beforePlace, ownAs}
+use Rattle.laws.proofs.Words.Lists.{all-cons}
+use Rattle.laws.proofs.Trees.Legal.{rank-agree}
+use Rattle.laws.proofs.Sizes.Gaps.{length-gaps, env-gaps}
+use Rattle.laws.proofs.Sizes.Before.{before-last}
 use Rattle.grammar.specs.Measures.{firstGaps, ownBy, beforeBy, gapRows}
 use Rattle.grammar.proofs.Rows.{first-is}
 
@@ -23,7 +23,7 @@ use Rattle.grammar.proofs.Rows.{first-is}
 by-legal : (r : ℕ) (P : Class → Type 0) → P empty → P label → ((n : ℕ) → P (parameter n)) → ((j : ℕ) → j < r → P (call j)) → (w : ℕ) → T (isLegal r w) → P (classOf w)
 by-legal r P e l p c w t = go (classOf w) t
   where
-    go : (k : Class) → T (byClass true true (λ n. true) (λ j. ltb j r) false k) → P k
+    go : (k : Class) → T (isLegalAs r k) → P k
     go empty t = e
     go label t = l
     go (parameter n) t = p n
@@ -53,12 +53,12 @@ module _ (ranks : List ℕ) (E : List (List ℕ)) (r : ℕ) (known sizes : List 
 
   own-first : (w k : ℕ) → k ≤ 5 → T (isLegal r w) → ownBy sizes k w ≡ ownBefore E k w
   own-first w k l =
-      by-legal r (λ c. byClass 1 1 (λ n. 0) (λ j. firstGaps sizes j k) 1 c ≡ byClass 1 1 (λ n. 0) (λ j. sizeBefore k (getD E j [])) 1 c)
+      by-legal r (λ c. ownAs (λ j. firstGaps sizes j k) c ≡ ownAs (λ j. sizeBefore k (getD E j [])) c)
       refl refl (λ n. refl) (λ j h. first-same j k h l) w
 
   own-all : (w : ℕ) → T (isLegal r w) → ownBy sizes 5 w ≡ ownSize E w
   own-all =
-      by-legal r (λ c. byClass 1 1 (λ n. 0) (λ j. firstGaps sizes j 5) 1 c ≡ byClass 1 1 (λ n. 0) (λ j. size (getD E j [])) 1 c)
+      by-legal r (λ c. ownAs (λ j. firstGaps sizes j 5) c ≡ ownAs (λ j. size (getD E j [])) c)
       refl refl (λ n. refl) all-same
 
   rank-same : (w : ℕ) → T (isLegal r w) → rankOf known w ≡ rankOf ranks w
@@ -66,7 +66,7 @@ module _ (ranks : List ℕ) (E : List (List ℕ)) (r : ℕ) (known sizes : List 
 
   rank-four : (w : ℕ) → T (isLegal r w) → rankOf ranks w ≤ 4
   rank-four =
-      by-legal r (λ c. byClass 0 2 (λ n. 0) (λ j. getD ranks j 0) 0 c ≤ 4)
+      by-legal r (λ c. rankAs ranks c ≤ 4)
       (omega arith) (omega arith) (λ n. omega arith) (B .small)
 
   pub sum-same : (ws : List ℕ) → T (all (isLegal r) ws) → sumOf (ownBy sizes 5) ws ≡ sumOf (ownSize E) ws

@@ -13,8 +13,8 @@ use lib.ListN.{length, take, getD, replicate}
 use lib.Seq.{take-all, sets}
 use Rattle.model.specs.Trees.{Rule, size, expansions, largestSize, lowestHuge}
 use Rattle.laws.specs.Formed.{formed}
-use Rattle.laws.proofs.Grammar.{formed-parts, expansions-solve}
-use Rattle.laws.proofs.Sizes.{lowest-none, lowest-some}
+use Rattle.laws.proofs.Trees.Grammar.{formed-parts, expansions-solve}
+use Rattle.laws.proofs.Sizes.Gaps.{lowest-none, lowest-some}
 use Rattle.grammar.specs.Meaning.{padded}
 use Rattle.grammar.specs.Measures.{SizesSmall, gapRows, RowsBelow, RuleMeasured}
 use Rattle.grammar.proofs.Padding.{zero-at, over-zeros}

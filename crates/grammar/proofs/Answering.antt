@@ -7,7 +7,7 @@ use Rattle.model.specs.Trees.{Rule, nodes}
 use Rattle.model.specs.Refusals.{Refusal, Result, taken, refused, numberOf}
 use Rattle.model.specs.File.{read}
 use Rattle.model.specs.Answers.{Answer, CountAnswer, checked, checkedAs, countedAs, refusal}
-use Rattle.laws.proofs.Placed.{read-placed}
+use Rattle.laws.proofs.File.Placed.{read-placed}
 use Rattle.grammar.specs.Meaning.{readingOf, queryAnswer}
 
 -- a file's refusal comes with its own place

@@ -7,9 +7,9 @@ use native.Mathlib.Omega.{arith}
 use lib.ListN.{length, getD, replicate}
 use Rattle.model.specs.Trees.{size, gapSizes, expansions, ranksOf, nodes, isTree}
 use Rattle.laws.specs.Formed.{bodyAt}
-use Rattle.laws.proofs.Tests.{T-true}
-use Rattle.laws.proofs.Folds.{tree-isTree}
-use Rattle.laws.proofs.Grammar.{RuleOf, rule-of, expansions-solve}
+use Rattle.laws.proofs.Words.Tests.{T-true}
+use Rattle.laws.proofs.Trees.Folds.{tree-isTree}
+use Rattle.laws.proofs.Trees.Grammar.{RuleOf, rule-of, expansions-solve}
 use Rattle.grammar.specs.Meaning.{bodyIn, wordIn, ranksIn, RanksSmall, padded, entries}
 use Rattle.grammar.specs.Measures.{firstGaps, gapRows, Laid, Denotes}
 use Rattle.grammar.proofs.RuleLists.{ranks-of-entries}

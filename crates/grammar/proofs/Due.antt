@@ -9,7 +9,7 @@ use lib.ListN.{length, drop, getD, length-drop}
 use borrow.Author.Tests.{eq-eqb}
 use mir.Facts.{and-yes, yes-and}
 use native.Mathlib.Decide.{decLt}
-use Rattle.model.specs.Words.{Class, classOf, byClass, rankOf}
+use Rattle.model.specs.Words.{Class, classOf, rankOf, rankAs}
 use Rattle.model.specs.Trees.{roots, childrenThere, isTree}
 use Rattle.grammar.specs.Meaning.{ranksIn, RanksSmall}
 use Rattle.grammar.proofs.Tables.{rank-in, rank-past}
@@ -70,7 +70,7 @@ rank-small r table small w = go (classOf w)
     at j (yes h) = rw rank-in (small j h)
     at j (no h) = rw (rank-past r table j (omega arith)) (omega arith)
 
-    go : (c : Class) → byClass 0 2 (λ n. 0) (λ j. getD (ranksIn r table) j 0) 0 c ≤ 4
+    go : (c : Class) → rankAs (ranksIn r table) c ≤ 4
     go Class.empty = omega arith
     go Class.label = omega arith
     go (Class.parameter i) = omega arith

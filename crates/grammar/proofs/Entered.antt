@@ -6,7 +6,7 @@ use native.Mathlib.Omega.{arith}
 use lib.ListN.{length, getD, replicate, List·getD-append}
 use Rattle.model.specs.Trees.{Rule, ranksOf}
 use Rattle.laws.specs.Formed.{bodyAt}
-use Rattle.laws.proofs.Grammar.{rule-of, formed-parts}
+use Rattle.laws.proofs.Trees.Grammar.{rule-of, formed-parts}
 use Rattle.grammar.specs.Meaning.{bodyIn, entries, Bodies, placeAfter, ranksIn, RanksSmall}
 use Rattle.grammar.specs.Measures.{Laid}
 use Rattle.grammar.proofs.Tables.{rank-in}

@@ -8,7 +8,7 @@ use native.Mathlib.Omega.{arith}
 use lib.ListN.{length, take, drop, getD, length-drop}
 use lib.Seq.{take-suc, getD-drop}
 use Rattle.laws.specs.Sums.{sum}
-use Rattle.laws.proofs.Sizes.{sum-append}
+use Rattle.laws.proofs.Sizes.Gaps.{sum-append}
 use Rattle.grammar.specs.Measures.{firstGaps}
 
 -- one gap more

@@ -12,10 +12,10 @@ use Rattle.model.specs.Words.{isParameter, rankOf}
 use Rattle.model.specs.Trees.{Rule, those, gapSizes, size, expand, expansions, ranksOf, largestSize}
 use Rattle.laws.specs.Formed.{formed, bodyAt, Fits}
 use Rattle.laws.specs.Sums.{sum, sizeBefore, beforePlace}
-use Rattle.laws.proofs.Fills.{those-in, those-out, those-append}
-use Rattle.laws.proofs.Grammar.{rule-of, formed-env, expansions-solve}
-use Rattle.laws.proofs.Sizes.{length-gaps, size-gaps, env-gaps}
-use Rattle.laws.proofs.Before.{gap-difference, before-last, gap-sum}
+use Rattle.laws.proofs.Trees.Fills.{those-in, those-out, those-append}
+use Rattle.laws.proofs.Trees.Grammar.{rule-of, formed-env, expansions-solve}
+use Rattle.laws.proofs.Sizes.Gaps.{length-gaps, size-gaps, env-gaps}
+use Rattle.laws.proofs.Sizes.Before.{gap-difference, before-last, gap-sum}
 use Rattle.grammar.specs.Meaning.{padded}
 use Rattle.grammar.specs.Measures.{SizesSmall, gapRows, RowsBelow}
 use Rattle.grammar.proofs.Rows.{length-rows, store-next, rows-more, small-set}

@@ -10,8 +10,8 @@ use lib.Dec.{ltb}
 use borrow.Author.Tests.{eq-eqb, ne-eqb, lt-ltb, le-ltb}
 use Rattle.model.specs.Words.{Class, classOf, parameter, isParameter, whenParameter}
 use Rattle.model.specs.Trees.{same, those, parameters, parametersFrom}
-use Rattle.laws.proofs.Classes.{parameter-word}
-use Rattle.laws.proofs.Fills.{those-in, those-out}
+use Rattle.laws.proofs.Words.Classes.{parameter-word}
+use Rattle.laws.proofs.Trees.Fills.{those-in, those-out}
 
 -- the parameters of ws are y_next to y_k
 abbrev pub orderOk : ℕ → ℕ → List ℕ → Bool

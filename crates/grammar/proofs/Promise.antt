@@ -10,12 +10,12 @@ use Rattle.model.specs.Trees.{Rule, those, parameters, size, gapSizes, expansio
 use Rattle.model.specs.Refusals.{Result, taken, refused}
 use Rattle.laws.specs.Formed.{formed}
 use Rattle.laws.specs.Sums.{sum, sizeBefore}
-use Rattle.laws.proofs.Grammar.{formed-env, expansions-solve, formed-parts, start-rank-last}
-use Rattle.laws.proofs.Fills.{length-parametersFrom}
-use Rattle.laws.proofs.Sizes.{length-size, size-gaps}
-use Rattle.laws.proofs.Before.{before-last}
+use Rattle.laws.proofs.Trees.Grammar.{formed-env, expansions-solve, formed-parts, start-rank-last}
+use Rattle.laws.proofs.Trees.Fills.{length-parametersFrom}
+use Rattle.laws.proofs.Sizes.Gaps.{length-size, size-gaps}
+use Rattle.laws.proofs.Sizes.Before.{before-last}
 use Rattle.model.specs.File.{read}
-use Rattle.laws.proofs.Reading.{read-taken}
+use Rattle.laws.proofs.File.Reading.{read-taken}
 use Rattle.grammar.specs.declared.rules.Reading.{Reading}
 use Rattle.grammar.specs.declared.rules.Reading.the-variants.{Taken}
 use Rattle.grammar.specs.Meaning.{readingIs, readingOf, ruleTable, padded, entries}

@@ -8,7 +8,7 @@ use lib.ListN.{length, replicate}
 use borrow.Author.Tests.{eq-eqb, ne-eqb}
 use Rattle.model.specs.Trees.{Rule, expansions, nodes, lowestHuge}
 use Rattle.model.specs.Refusals.{Result, taken, refused, TRAIL, HUGE, EMPTY}
-use Rattle.model.specs.File.{wholeRefusals}
+use Rattle.model.specs.File.{readWhole}
 use Rattle.grammar.specs.declared.refusals.Refusal.{Refusal}
 use Rattle.grammar.specs.declared.refusals.Refusal.the-variants as refusals
 use Rattle.grammar.specs.declared.rules.Reading.{Reading}
@@ -40,17 +40,17 @@ module _ (file : List ℕ) (m : Result (List Rule)) (table table′ sizes sizes�
       }
 
 -- the whole, when its records were taken
-pub whole-huge : (rules : List Rule) (r : ℕ) → lowestHuge 0 (expansions rules) ≡ some r → wholeRefusals rules [] ≡ refused HUGE (r + 1)
-whole-huge rules r e = rw (e, wholeRefusals) (ap (refused HUGE) (sym (add-one r)))
+pub whole-huge : (rules : List Rule) (r : ℕ) → lowestHuge 0 (expansions rules) ≡ some r → readWhole rules [] ≡ refused HUGE (r + 1)
+whole-huge rules r e = rw (e, readWhole) (ap (refused HUGE) (sym (add-one r)))
 
 module _ (rules : List Rule) (e : lowestHuge 0 (expansions rules) ≡ none) where
-  pub whole-empty : nodes rules ≡ 1 → wholeRefusals rules [] ≡ refused EMPTY 0
-  whole-empty h = rw (e, eq-eqb (nodes rules) 1 h, wholeRefusals)
+  pub whole-empty : nodes rules ≡ 1 → readWhole rules [] ≡ refused EMPTY 0
+  whole-empty h = rw (e, eq-eqb (nodes rules) 1 h, readWhole)
 
-  pub whole-taken : (nodes rules ≡ 1 → ⊥) → wholeRefusals rules [] ≡ taken rules
-  whole-taken h = rw (e, ne-eqb (nodes rules) 1 h, wholeRefusals)
+  pub whole-taken : (nodes rules ≡ 1 → ⊥) → readWhole rules [] ≡ taken rules
+  whole-taken h = rw (e, ne-eqb (nodes rules) 1 h, readWhole)
 
-pub whole-trail : (rules : List Rule) (rest : List ℕ) (n : ℕ) → length rules ≡ n → (rest ≡ [] → ⊥) → wholeRefusals rules rest ≡ refused TRAIL (n + 1)
+pub whole-trail : (rules : List Rule) (rest : List ℕ) (n : ℕ) → length rules ≡ n → (rest ≡ [] → ⊥) → readWhole rules rest ≡ refused TRAIL (n + 1)
 whole-trail rules [] n e h = absurd (h refl)
 whole-trail rules (b ∷ bs) n e h = ap (refused TRAIL) (ap suc e ∙ sym (add-one n))
 

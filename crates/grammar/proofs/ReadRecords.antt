@@ -12,10 +12,10 @@ use borrow.Author.Tests.{eq-eqb, le-leb}
 use Rattle.model.specs.Words.{within}
 use Rattle.model.specs.Trees.{Rule, ranksOf, mostRules}
 use Rattle.model.specs.Refusals.{Refusal, Result, taken, refused, firstOf}
-use Rattle.model.specs.File.{ruleIn, ruleRefusals, afterRecord, readRules, wholeRefusals}
+use Rattle.model.specs.File.{ruleIn, ruleRefusals, afterRecord, readRules, readWhole}
 use Rattle.laws.specs.Formed.{formed, formedOn, startRank}
 use mir.Facts.{yes-and}
-use Rattle.laws.proofs.Grammar.{formed-on-snoc, start-rank-snoc, rule-passed}
+use Rattle.laws.proofs.Trees.Grammar.{formed-on-snoc, start-rank-snoc, rule-passed}
 use Rattle.grammar.specs.Meaning.{readRecords, afterRules}
 
 pub records-refused : (due : ℕ) (done : List Rule) (bytes : List ℕ) (x : Refusal) (k : ℕ)
@@ -31,16 +31,16 @@ records-refused (suc due) done bytes x k e = go (firstOf (ruleRefusals (ranksOf 
     go none q rec = rec q
 
 pub records-taken : (due : ℕ) (done : List Rule) (bytes : List ℕ) (rules : List Rule)
-    → readRecords due done bytes ≡ taken rules → readRules due done bytes ≡ wholeRefusals rules (afterRules due bytes)
-records-taken zero done bytes rules e = let q : done ≡ rules = cc in ap (λ (rs : List Rule). wholeRefusals rs bytes) q
+    → readRecords due done bytes ≡ taken rules → readRules due done bytes ≡ readWhole rules (afterRules due bytes)
+records-taken zero done bytes rules e = let q : done ≡ rules = cc in ap (λ (rs : List Rule). readWhole rs bytes) q
 records-taken (suc due) done bytes rules e = go (firstOf (ruleRefusals (ranksOf done) (eqb due 0) bytes)) e (records-taken due (done ++ ruleIn bytes ∷ []) (afterRecord bytes) rules)
   where
     go : (o : Option Refusal)
         → _≡_ {A = Result (List Rule)} (elim o [ some y ↦ refused y (suc (length done)) | none ↦ readRecords due (done ++ ruleIn bytes ∷ []) (afterRecord bytes) ]) (taken rules)
         → (readRecords due (done ++ ruleIn bytes ∷ []) (afterRecord bytes) ≡ taken rules
-        → readRules due (done ++ ruleIn bytes ∷ []) (afterRecord bytes) ≡ wholeRefusals rules (afterRules due (afterRecord bytes)))
+        → readRules due (done ++ ruleIn bytes ∷ []) (afterRecord bytes) ≡ readWhole rules (afterRules due (afterRecord bytes)))
         → _≡_ {A = Result (List Rule)} (elim o [ some y ↦ refused y (suc (length done)) | none ↦ readRules due (done ++ ruleIn bytes ∷ []) (afterRecord bytes) ])
-        (wholeRefusals rules (afterRules due (afterRecord bytes)))
+        (readWhole rules (afterRules due (afterRecord bytes)))
     go (some y) q rec = absurd (let z : _≡_ {A = ℕ} 0 1 = cc in omega arith)
     go none q rec = rec q
 

@@ -12,7 +12,7 @@ use Rattle.model.specs.Words.{within}
 use Rattle.model.specs.Trees.{mostRules}
 use Rattle.model.specs.Refusals.{Refusal, taken, refused, firstOf, LARGE}
 use Rattle.model.specs.File.{read, readRules, payloadLength, editionIn, ruleCount, afterRecord, headRefusals, largestFile}
-use Rattle.laws.proofs.Conditions.{firstOf-none-iff}
+use Rattle.laws.proofs.Answers.Conditions.{firstOf-none-iff}
 use Rattle.grammar.specs.Meaning.{headResult}
 use Rattle.grammar.proofs.Tests.{both-true}
 use Rattle.grammar.proofs.Refusing.{unless-taken, unless-refused}

@@ -11,23 +11,23 @@ use lib.ListN.{length, take, drop, getD, length-drop}
 use lib.Seq.{drop-cons, drop-drop, getD-drop, getD-take, length-take-le, take-nil}
 use borrow.Author.Tests.{lt-ltb, le-ltb, le-leb, lt-leb, eq-eqb, ne-eqb, eqb-true, ltb-false, not-false}
 use Rattle.model.specs.Refusals.{Refusal, taken, refused, firstOf, SHORT, KIND, LENGTH, HEAD}
-use Rattle.model.specs.File.{numberAt, kindIn, payloadLength, payloadIn, recordRefusals, editionIn, ruleCount}
-use Rattle.laws.proofs.Conditions.{firstOf-none-iff}
+use Rattle.model.specs.File.{numberIn, kindIn, payloadLength, payloadIn, recordRefusals, editionIn, ruleCount}
+use Rattle.laws.proofs.Answers.Conditions.{firstOf-none-iff}
 use Rattle.grammar.specs.Meaning.{wordIn, lengthIn, lengthAllowed, recordResult, headResult, unlessRefused}
 use Rattle.model.specs.Words.{within}
 use Rattle.model.specs.Trees.{mostRules}
 use Rattle.grammar.proofs.Refusing.{unless-taken, unless-refused, first-over, first-here}
 
 -- k bytes as a number
-number-cons : (bs : List ℕ) (at k : ℕ) → at < length bs → numberAt (take (suc k) (drop at bs)) ≡ getD bs at 0 + 256 * numberAt (take k (drop (at + 1) bs))
+number-cons : (bs : List ℕ) (at k : ℕ) → at < length bs → numberIn (take (suc k) (drop at bs)) ≡ getD bs at 0 + 256 * numberIn (take k (drop (at + 1) bs))
 number-cons bs at k h =
-    ap (λ (l : List ℕ). numberAt (take (suc k) l)) (drop-cons bs at 0 h)
-    ∙ ap (λ (n : ℕ). getD bs at 0 + 256 * numberAt (take k (drop n bs))) next
+    ap (λ (l : List ℕ). numberIn (take (suc k) l)) (drop-cons bs at 0 h)
+    ∙ ap (λ (n : ℕ). getD bs at 0 + 256 * numberIn (take k (drop n bs))) next
   where
     next : suc at ≡ at + 1
     next = omega arith
 
-number-word : (bs : List ℕ) (at : ℕ) → at + 1 < length bs → numberAt (take 2 (drop at bs)) ≡ wordIn bs at
+number-word : (bs : List ℕ) (at : ℕ) → at + 1 < length bs → numberIn (take 2 (drop at bs)) ≡ wordIn bs at
 number-word bs at h =
     number-cons bs at 1 (omega arith)
     ∙ ap (λ (n : ℕ). getD bs at 0 + 256 * n) (number-cons bs (at + 1) 0 h ∙ last)
@@ -35,11 +35,11 @@ number-word bs at h =
     last : getD bs (at + 1) 0 + 256 * 0 ≡ getD bs (at + 1) 0
     last = omega arith
 
-number-length : (bs : List ℕ) (at : ℕ) → at + 3 < length bs → numberAt (take 4 (drop at bs)) ≡ lengthIn bs at
+number-length : (bs : List ℕ) (at : ℕ) → at + 3 < length bs → numberIn (take 4 (drop at bs)) ≡ lengthIn bs at
 number-length bs at h =
     number-cons bs at 3 (omega arith)
     ∙ ap (λ (n : ℕ). getD bs at 0 + 256 * n) (number-cons bs (at + 1) 2 (omega arith))
-    ∙ ap (λ (n : ℕ). getD bs at 0 + 256 * (getD bs (at + 1) 0 + 256 * numberAt (take 2 (drop n bs)))) two
+    ∙ ap (λ (n : ℕ). getD bs at 0 + 256 * (getD bs (at + 1) 0 + 256 * numberIn (take 2 (drop n bs)))) two
     ∙ ap (λ (n : ℕ). getD bs at 0 + 256 * (getD bs (at + 1) 0 + 256 * n)) (number-word bs (at + 2) (omega arith))
     ∙ regroup
   where
@@ -54,7 +54,7 @@ module _ (file : List ℕ) (at kind : ℕ) (h : at ≤ length file) where
   left = length-drop at file
 
   kind-there : 6 ≤ length file - at → kindIn (drop at file) ≡ wordIn file (at + 4)
-  kind-there l = ap (λ (bs : List ℕ). numberAt (take 2 bs)) (drop-drop 4 at file) ∙ number-word file (at + 4) (omega arith)
+  kind-there l = ap (λ (bs : List ℕ). numberIn (take 2 bs)) (drop-drop 4 at file) ∙ number-word file (at + 4) (omega arith)
 
   length-there : 6 ≤ length file - at → payloadLength (drop at file) ≡ lengthIn file at
   length-there l = number-length file at (omega arith)
@@ -123,7 +123,7 @@ word-drop file at i =
 
 -- a word of the payload
 pub payload-word : (bytes : List ℕ) (i : ℕ) → i + 1 < payloadLength bytes → 6 + payloadLength bytes ≤ length bytes
-    → numberAt (take 2 (drop i (payloadIn bytes))) ≡ wordIn bytes (6 + i)
+    → numberIn (take 2 (drop i (payloadIn bytes))) ≡ wordIn bytes (6 + i)
 payload-word bytes i h f =
     number-word (payloadIn bytes) i (omega (arith, length-take-le (payloadLength bytes) (drop 6 bytes) (omega (arith, length-drop 6 bytes))))
     ∙ ap (λ (n : ℕ). n + 256 * getD (payloadIn bytes) (i + 1) 0) (getD-take (payloadLength bytes) (drop 6 bytes) i 0 (omega arith))

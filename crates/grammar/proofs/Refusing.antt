@@ -6,7 +6,7 @@ use mathlib.Core.List.{List, [], _∷_, _++_}
 use mathlib.Core.Option.{Option, none, some}
 use native.Mathlib.Omega.{arith}
 use Rattle.model.specs.Refusals.{Refusal, taken, refused, firstOf}
-use Rattle.laws.proofs.Conditions.{orElse, noneHolds-split, firstOf-none, firstOf-none-iff}
+use Rattle.laws.proofs.Answers.Conditions.{orElse, noneHolds-split, firstOf-none, firstOf-none-iff}
 use Rattle.grammar.specs.Meaning.{unlessRefused}
 
 pub unless-taken : {A : Type 0} (v u : A) (o : Option Refusal) → unlessRefused v o ≡ taken u → (o ≡ none) × (v ≡ u)

@@ -12,8 +12,8 @@ use borrow.Author.Tests.{lt-ltb, le-ltb, ltb-false, eqb-true, leb-true, eq-eqb, 
 use Rattle.model.specs.Refusals.{Refusal, Result, taken, refused, firstOf, RANK, SYMBOL, BODY}
 use Rattle.model.specs.File.{wordsIn, payloadLength, recordRefusals, ruleRefusals, ruleIn, afterRecord}
 use Rattle.model.specs.Trees.{all, isLegal, obeys}
-use Rattle.laws.proofs.Tests.{or-split}
-use Rattle.laws.proofs.Conditions.{firstOf-none-iff}
+use Rattle.laws.proofs.Words.Tests.{or-split}
+use Rattle.laws.proofs.Answers.Conditions.{firstOf-none-iff}
 use Rattle.grammar.specs.Meaning.{wordIn, bodyIn, lengthAllowed, recordResult, ruleResult, unlessRefused}
 use Rattle.grammar.proofs.BodyWords.{length-body}
 use Rattle.grammar.proofs.Tests.{both-true}

@@ -13,7 +13,7 @@ use lib.Seq.{sets, length-sets, getD-at}
 use Rattle.model.specs.Refusals.{Refusal, taken, refused}
 use Rattle.model.specs.File.{ruleIn, afterRecord}
 use Rattle.model.specs.Trees.{Rule, ranksOf}
-use Rattle.laws.proofs.Grammar.{length-ranks, ranks-append}
+use Rattle.laws.proofs.Trees.Grammar.{length-ranks, ranks-append}
 use Rattle.grammar.specs.Meaning.{bodyIn, ranksIn, RanksSmall, ruleResult, rulesIn, afterRules, readRecords, entries, Bodies, placeAfter, RulesTaken}
 use Rattle.grammar.proofs.Tables.{rank-in}
 use Rattle.grammar.proofs.RuleRecords.{RuleThere, rule-there, rule-not-there}

@@ -11,8 +11,8 @@ use Rattle.model.specs.Words.{rankOf}
 use Rattle.model.specs.Trees.{join, forest, isTree}
 use Rattle.model.specs.Edits.{subtree}
 use Rattle.laws.specs.Formed.{Fits}
-use Rattle.laws.proofs.Lists.{join-append}
-use Rattle.laws.proofs.Folds.{fits-split, isTree-tree, length-forest}
+use Rattle.laws.proofs.Words.Lists.{join-append}
+use Rattle.laws.proofs.Trees.Folds.{fits-split, isTree-tree, length-forest}
 
 -- so many of the trees that a list of words is are due, and all their words are n
 pub record Due (ranks ws : List ℕ) (due n : ℕ) : Type 0 where

@@ -12,9 +12,9 @@ use Rattle.model.specs.File.{wordsIn}
 use Rattle.model.specs.Trees.{Rule, all, isLegal, gapSizes, size, expansions, ranksOf}
 use Rattle.laws.specs.Formed.{bodyAt}
 use Rattle.laws.specs.Sums.{sumOf, sizeBefore}
-use Rattle.laws.proofs.Lists.{all-split}
-use Rattle.laws.proofs.Grammar.{rule-of, formed-env, expansions-solve}
-use Rattle.laws.proofs.Sizes.{rule-size}
+use Rattle.laws.proofs.Words.Lists.{all-split}
+use Rattle.laws.proofs.Trees.Grammar.{rule-of, formed-env, expansions-solve}
+use Rattle.laws.proofs.Sizes.Gaps.{rule-size}
 use Rattle.grammar.specs.Meaning.{bodyIn, wordIn, ranksIn, padded}
 use Rattle.grammar.specs.Measures.{ownBy, beforeBy, gapRows, Laid, RowsBelow}
 use Rattle.grammar.proofs.BodyWords.{body-word}

@@ -7,7 +7,7 @@ use lib.ListN.{length, drop, replicate, length-drop, drop-of-length-le}
 use lib.Seq.{length-sets}
 use Rattle.model.specs.Trees.{Rule}
 use Rattle.model.specs.Refusals.{taken, refused, TRAIL}
-use Rattle.model.specs.File.{read, wholeRefusals}
+use Rattle.model.specs.File.{read, readWhole}
 use Rattle.grammar.specs.declared.refusals.Refusal.{Refusal}
 use Rattle.grammar.specs.declared.rules.Reading.{Reading}
 use Rattle.grammar.specs.declared.rules.Reading.the-variants.{Taken, Refused}
@@ -35,7 +35,7 @@ module _ (file : List ℕ) (n : ℕ) (short : length file ≤ 16384) (head : hea
     count : length rules ≡ n
     count = length-rules n (drop 10 file)
 
-    read-these : read file ≡ wholeRefusals rules (afterRules n (drop 10 file))
+    read-these : read file ≡ readWhole rules (afterRules n (drop 10 file))
     read-these = read-rules file short n head ∙ records-taken n [] (drop 10 file) rules (these .result)
 
     pub entered-length : length after ≡ length before
@@ -47,11 +47,11 @@ module _ (file : List ℕ) (n : ℕ) (short : length file ≤ 16384) (head : hea
         ∙ whole-trail rules (afterRules n (drop 10 file)) n count
         (λ q. let l = length-drop end file in let m : length (drop end file) ≡ 0 = ap length (these .rest ∙ q) in omega arith)
 
-    pub no-trail : length file ≤ end → read file ≡ wholeRefusals (writtenRules file) []
+    pub no-trail : length file ≤ end → read file ≡ readWhole (writtenRules file) []
     no-trail h =
         read-these
-        ∙ ap (wholeRefusals rules) (sym (these .rest) ∙ drop-of-length-le file h)
-        ∙ ap (λ (k : ℕ). wholeRefusals (rulesIn k (drop 10 file)) []) (counted file short n head)
+        ∙ ap (readWhole rules) (sym (these .rest) ∙ drop-of-length-le file h)
+        ∙ ap (λ (k : ℕ). readWhole (rulesIn k (drop 10 file)) []) (counted file short n head)
 
     pub measurable : before ≡ replicate (length before) 0 → 768 ≤ length before → Measurable file after
     measurable zero-table long =

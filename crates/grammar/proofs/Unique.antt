@@ -7,7 +7,7 @@ use native.Mathlib.Omega.{arith}
 use lib.ListN.{getD}
 use Rattle.model.specs.Refusals.{numberOf}
 use Rattle.model.specs.Answers as answers
-use Rattle.laws.proofs.Refusals.{numberOf-positive}
+use Rattle.laws.proofs.Answers.Refusals.{numberOf-positive}
 use Rattle.grammar.specs.declared.refusals.Refusal.{Refusal}
 use Rattle.grammar.specs.declared.refusals.Refusal.the-variants.{Short, Kind, Length, Head, Rank, Symbol, Body, Trail, Large, Huge, Empty, Position, Node, Label, Tree, NothingLeft, Outgrown, Full, Room, Work, Request}
 use Rattle.grammar.specs.declared.refusals.Verdict.{Verdict}

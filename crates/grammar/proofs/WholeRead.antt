@@ -9,8 +9,8 @@ use lib.Dec.{T, ltb}
 use lib.ListN.{length, replicate}
 use Rattle.model.specs.Trees.{Rule, size, expansions, nodes, lowestHuge, largestSize}
 use Rattle.laws.specs.Formed.{formed}
-use Rattle.laws.proofs.Grammar.{formed-parts, expansions-solve}
-use Rattle.laws.proofs.Sizes.{none-huge}
+use Rattle.laws.proofs.Trees.Grammar.{formed-parts, expansions-solve}
+use Rattle.laws.proofs.Sizes.Gaps.{none-huge}
 use Rattle.grammar.specs.declared.sizes.Measured.{Measured}
 use Rattle.grammar.specs.declared.sizes.Measured.the-variants.{Fits, Huge}
 use Rattle.grammar.specs.Meaning.{padded}

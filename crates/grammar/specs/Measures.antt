@@ -7,7 +7,7 @@ use lib.Dec.{T, ltb}
 use lib.Seq.{sets}
 use mathlib.Core.Option.{none, some}
 use lib.ListN.{length, take, drop, getD, replicate}
-use Rattle.model.specs.Words.{classOf, byClass}
+use Rattle.model.specs.Words.{classOf}
 use Rattle.model.specs.Trees.{Rule, gapSizes, size, largestSize, expansions, lowestHuge}
 use Rattle.model.specs.Refusals.{Result, taken, refused}
 use Rattle.model.specs.File.{read, ruleCount}
@@ -16,7 +16,7 @@ use Rattle.grammar.specs.Meaning.{writtenRules, entries, Bodies, placeAf
 use Rattle.grammar.specs.declared.rules.Reading.{Reading}
 use Rattle.grammar.specs.declared.sizes.Measured.{Measured}
 use Rattle.grammar.specs.declared.sizes.Measured.the-variants.{Fits, Huge}
-use Rattle.laws.specs.Sums.{sum, depthOf}
+use Rattle.laws.specs.Sums.{sum, depthOf, ownAs}
 
 -- the first k gaps of rule j
 abbrev pub firstGaps : List ℕ → ℕ → ℕ → ℕ
@@ -24,7 +24,7 @@ firstGaps sizes j k = sum (take k (drop (5 * j) sizes))
 
 -- the nodes that a word itself produces before its k-th child; all of them with k = 5
 abbrev pub ownBy : List ℕ → ℕ → ℕ → ℕ
-ownBy sizes k w = byClass 1 1 (λ n. 0) (λ j. firstGaps sizes j k) 1 (classOf w)
+ownBy sizes k w = ownAs (λ j. firstGaps sizes j k) (classOf w)
 
 -- the nodes that the words xs of a body produce before the place after them: a word over the place those before the child that holds it, any other word all
 abbrev pub beforeBy : (ℕ → ℕ) → List ℕ → List ℕ → ℕ

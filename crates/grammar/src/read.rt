@@ -12,7 +12,7 @@ ghost use Prim.Native.Nat.{_≤_};
 ghost use mathlib.Core.List.{[]};
 ghost use lib.ListN.{length, replicate};
 ghost use Rattle.model.specs.Refusals.{taken};
-ghost use Rattle.model.specs.File.{read, ruleCount, wholeRefusals};
+ghost use Rattle.model.specs.File.{read, ruleCount, readWhole};
 ghost use Rattle.grammar.specs.Meaning.{headResult, writtenRules};
 ghost use Rattle.grammar.specs.Measures.{Measurable, ReadIs};
 
@@ -59,7 +59,7 @@ fn records(file: &[u8], n: usize, table: &mut [u16], sizes: &mut [u64]) -> Readi
 fn whole(file: &[u8], n: usize, table: &mut [u16], sizes: &mut [u64]) -> Reading
     requires { ⌜ Measurable (now file) (now table) × (n ≡ ruleCount (now file)) × (1280 ≤ length (now sizes)) × (now sizes ≡ replicate (length (now sizes)) 0) ⌝ }
     ensures { λ r.
-        ⌜ ReadIs (now (file .entry)) r (wholeRefusals (writtenRules (now (file .entry))) []) (now (table .entry)) (now (table .exit)) (now (sizes .entry)) (now (sizes .exit)) ⌝ }
+        ⌜ ReadIs (now (file .entry)) r (readWhole (writtenRules (now (file .entry))) []) (now (table .entry)) (now (table .exit)) (now (sizes .entry)) (now (sizes .exit)) ⌝ }
 {
     match measure(file, n, table, sizes) {
         Measured::Huge(r) => {

@@ -18,14 +18,14 @@ use Rattle.laws.specs.Published.{BinaryTree, wordsOf, labelled, OneTree,
 use Rattle.laws.specs.Returned.{Expands, UpdateReturns, PackReturns, fileOf}
 use Rattle.laws.specs.Runs.{Call, asked, AllAccepted, lastFile}
 use Rattle.laws.specs.Conforming.{CheckConforms, CountConforms, LabelConforms, WindowConforms, UpdateConforms, PackConforms, ProgramConforms, Settles}
-use Rattle.laws.proofs.Refusals.{checked-exactly, counted-exactly, labelAt-exactly, windowAt-exactly, update-exactly, pack-exactly, windowAt-filled, update-filled, pack-filled}
-use Rattle.laws.proofs.Program.{program-exactly, enough, program-record, program-never-empty}
-use Rattle.laws.proofs.Published.{one-tree, published-words}
-use Rattle.laws.proofs.PublishedAtOnce.{at-once-words}
-use Rattle.laws.proofs.Returned.{update-returns, pack-returns}
-use Rattle.laws.proofs.Recorded.{program-recorded}
-use Rattle.laws.proofs.Runs.{ran-in-any-order}
-use Rattle.laws.proofs.Conforming.{check-settles, count-settles, label-settles, window-settles, update-settles, pack-settles, program-settles}
+use Rattle.laws.proofs.Answers.Refusals.{checked-exactly, counted-exactly, labelAt-exactly, windowAt-exactly, update-exactly, pack-exactly, windowAt-filled, update-filled, pack-filled}
+use Rattle.laws.proofs.Answers.Program.{program-exactly, enough, program-record, program-never-empty}
+use Rattle.laws.proofs.Edits.Published.{one-tree, published-words}
+use Rattle.laws.proofs.Edits.PublishedAtOnce.{at-once-words}
+use Rattle.laws.proofs.Answers.Returned.{update-returns, pack-returns}
+use Rattle.laws.proofs.Answers.Recorded.{program-recorded}
+use Rattle.laws.proofs.Answers.Runs.{ran-in-any-order}
+use Rattle.laws.proofs.Answers.Conforming.{check-settles, count-settles, label-settles, window-settles, update-settles, pack-settles, program-settles}
 
 -- 1. "Every call, on every input, ends in an acceptance or exactly one numbered refusal, given exactly under its stated condition. After a refusal the result buffer holds only the
 -- fill byte; the work area is all 0 after every call."

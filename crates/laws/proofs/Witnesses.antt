@@ -25,10 +25,10 @@ use Rattle.laws.specs.Runs.{Call, asked, AllAccepted, lastFile}
 use Rattle.laws.specs.Steps.{Passes, start, round}
 use Rattle.laws.specs.Work.{bodyWords, UpdateWords}
 use Rattle.laws.specs.Returned.{Expands, UpdateReturns, PackReturns, fileOf}
-use Rattle.laws.proofs.Written.{Below, write-bytes}
-use Rattle.laws.proofs.Returned.{single, file-expands}
-use Rattle.laws.proofs.Steps.{choice-unbeaten}
-use Rattle.laws.proofs.Work.{taken-short, update-words, pack-words}
+use Rattle.laws.proofs.File.Written.{Below, write-bytes}
+use Rattle.laws.proofs.Answers.Returned.{single, file-expands}
+use Rattle.laws.proofs.Rounds.Steps.{choice-unbeaten}
+use Rattle.laws.proofs.Answers.Work.{taken-short, update-words, pack-words}
 use Rattle.laws.proofs.Demands.{demand-2, demand-2-packing, program-writes-file, demand-3}
 
 -- "G: rule 0, rank 1, 0002 0003 0000 0000 8001; rule 1, rank 0, 0001 C000 C000 0000 0000"

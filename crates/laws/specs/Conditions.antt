@@ -11,7 +11,7 @@ use lib.Dec.{leb, ltb, eqb}
 use lib.ListN.{length, take, drop, replicate}
 use Rattle.model.specs.Trees.{Rule, ranksOf, expansions, treeOf, nodes, size, largestSize}
 use Rattle.model.specs.Refusals.{Refusal, TRAIL, LARGE, HUGE, EMPTY, POSITION, WORK, REQUEST, numberOf}
-use Rattle.model.specs.File.{numberAt, payloadIn, headRefusals, ruleCount, ruleIn, ruleRefusals, afterRecord, largestFile, write}
+use Rattle.model.specs.File.{numberIn, payloadIn, headRefusals, ruleCount, ruleIn, ruleRefusals, afterRecord, largestFile, write}
 use Rattle.model.specs.Edits.{Update}
 use Rattle.model.specs.Answers.{Answer, CountAnswer, LabelAnswer, WindowAnswer, FileAnswer, refusal, updateRefusals, fileRefusals, packRefusals, remade, packed, leastWork}
 use Rattle.model.specs.Program.{requestRefused, updateIn}
@@ -78,7 +78,7 @@ abbrev pub labelConditions : List ℕ → ℕ → List Condition
 labelConditions file p = readConditions file ++ (leb (nodes (fileRules file)) p, (POSITION, 0)) ∷ []
 
 abbrev pub windowConditions : List ℕ → ℕ → ℕ → List Condition
-windowConditions file p size = readConditions file ++ (ltb (nodes (fileRules file)) (p + size), (POSITION, 0)) ∷ []
+windowConditions file p len = readConditions file ++ (ltb (nodes (fileRules file)) (p + len), (POSITION, 0)) ∷ []
 
 -- the updater: "20; 9; then record by record", "then 8, 10 (lowest rule), 11; then 12 to 19 as numbered, each where the update has it"
 abbrev pub updateConditions : ℕ → ℕ → List ℕ → Update → List Condition
@@ -106,16 +106,16 @@ abbrev pub refusedLabel : Refusal → ℕ → LabelAnswer
 refusedLabel x k = record { answer = refusal x k; word = 65535 }
 
 abbrev pub refusedWindow : ℕ → Refusal → ℕ → WindowAnswer
-refusedWindow size x k = record { answer = refusal x k; window = replicate size 65535 }
+refusedWindow len x k = record { answer = refusal x k; window = replicate len 65535 }
 
 -- the answer that an output of the program holds
 abbrev pub answerIn : List ℕ → Answer
 answerIn output =
     record {
-      number = numberAt (take 2 (payloadIn output));
-      place = numberAt (take 2 (drop 2 (payloadIn output)));
-      opened = numberAt (take 2 (drop 4 (payloadIn output)));
-      rounds = numberAt (take 2 (drop 6 (payloadIn output)));
+      number = numberIn (take 2 (payloadIn output));
+      place = numberIn (take 2 (drop 2 (payloadIn output)));
+      opened = numberIn (take 2 (drop 4 (payloadIn output)));
+      rounds = numberIn (take 2 (drop 6 (payloadIn output)));
       length = length (afterRecord output);
     }
 
@@ -139,6 +139,6 @@ pub record FilledFile (room work : ℕ) (x : FileAnswer) : Type 0 where
   pub after-file : drop (x .answer .length) (x .result) ≡ replicate (room - x .answer .length) 255
 
 -- the slice lent to the window expander
-pub record FilledWindow (size : ℕ) (x : WindowAnswer) : Type 0 where
-  pub window-length : length (x .window) ≡ size
-  pub refused-window : x .answer .number ≢ 0 → x .window ≡ replicate size 65535
+pub record FilledWindow (len : ℕ) (x : WindowAnswer) : Type 0 where
+  pub window-length : length (x .window) ≡ len
+  pub refused-window : x .answer .number ≢ 0 → x .window ≡ replicate len 65535

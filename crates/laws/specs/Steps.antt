@@ -7,12 +7,12 @@ use lib.Dec.{T}
 use lib.ListN.{length}
 use Rattle.model.specs.Words.{rankOf}
 use Rattle.model.specs.Trees.{Rule, ranksOf, mostRules}
-use Rattle.model.specs.Rounds.{Digram, joins, occurrences, eligible, Counted, better, oneRound}
+use Rattle.model.specs.Rounds.{Digram, isLabelOrCall, occurrences, eligible, Counted, better, oneRound}
 
 -- "A digram (a, i, b) is a word a with i-th child b; neither is ⊥ or a parameter."
 pub record IsDigram (ranks : List ℕ) (d : Digram) : Type 0 where
-  pub joins-a : T (joins (d .a))
-  pub joins-b : T (joins (d .b))
+  pub class-a : T (isLabelOrCall (d .a))
+  pub class-b : T (isLabelOrCall (d .b))
   pub low : 1 ≤ d .i
   pub high : d .i ≤ rankOf ranks (d .a)
 

@@ -4,7 +4,7 @@ use mathlib.Core.Bool.{cond}
 use mathlib.Core.List.{List, [], _∷_}
 use lib.Dec.{ltb}
 use lib.ListN.{take, getD}
-use Rattle.model.specs.Words.{classOf, byClass, rankOf}
+use Rattle.model.specs.Words.{Class, classOf, byClass, rankOf}
 use Rattle.model.specs.Trees.{size, gapSizes}
 
 abbrev pub sumOf : {A : Type 0} → (A → ℕ) → List A → ℕ
@@ -14,9 +14,13 @@ sumOf f (x ∷ xs) = f x + sumOf f xs
 abbrev pub sum : List ℕ → ℕ
 sum gs = sumOf (λ g. g) gs
 
--- the nodes that a word itself produces: one for a label or ⊥, the called rule's size for a call, none for a parameter
+-- the nodes that a word itself produces: one for a label or ⊥, none for a parameter, `called j` for a call of rule j
+abbrev pub ownAs : (ℕ → ℕ) → Class → ℕ
+ownAs called = byClass (record { empty = 1; label = 1; parameter = λ i. 0; call = called; illegal = 1 })
+
+-- for a call all of the called rule's nodes
 abbrev pub ownSize : List (List ℕ) → ℕ → ℕ
-ownSize lower w = byClass 1 1 (λ n. 0) (λ j. size (getD lower j [])) 1 (classOf w)
+ownSize lower w = ownAs (λ j. size (getD lower j [])) (classOf w)
 
 -- the nodes of an expansion before y_m, where it has such a parameter, and all where it has fewer
 abbrev pub sizeBefore : ℕ → List ℕ → ℕ
@@ -24,7 +28,7 @@ sizeBefore m expansion = sum (take m (gapSizes expansion))
 
 -- the nodes that a word itself produces before its m-th child
 abbrev pub ownBefore : List (List ℕ) → ℕ → ℕ → ℕ
-ownBefore lower m w = byClass 1 1 (λ n. 0) (λ j. sizeBefore m (getD lower j [])) 1 (classOf w)
+ownBefore lower m w = ownAs (λ j. sizeBefore m (getD lower j [])) (classOf w)
 
 -- A place with d trees of the stack before it: the words xs are read onto them. How many trees then stand before the tree that holds the place.
 abbrev pub depthOf : (ℕ → ℕ) → ℕ → List ℕ → ℕ

@@ -70,15 +70,15 @@ pub record WindowAnswer : Type 0 where
   pub window : List ℕ
 
 abbrev pub windowAs : ℕ → ℕ → Result (List Rule) → WindowAnswer
-windowAs p size (taken rules) =
-    elim (ltb (nodes rules) (p + size)) [
-      | true ↦ record { answer = refusal POSITION 0; window = replicate size 65535 }
-      | false ↦ record { answer = accepted 0 0 0; window = take size (drop p (treeOf rules)) }
+windowAs p len (taken rules) =
+    elim (ltb (nodes rules) (p + len)) [
+      | true ↦ record { answer = refusal POSITION 0; window = replicate len 65535 }
+      | false ↦ record { answer = accepted 0 0 0; window = take len (drop p (treeOf rules)) }
     ]
-windowAs p size (refused x k) = record { answer = refusal x k; window = replicate size 65535 }
+windowAs p len (refused x k) = record { answer = refusal x k; window = replicate len 65535 }
 
 abbrev pub windowAt : List ℕ → ℕ → ℕ → WindowAnswer
-windowAt file p size = windowAs p size (read file)
+windowAt file p len = windowAs p len (read file)
 
 -- the answer of an update or a packing, with what the result buffer and the work area then hold
 pub record FileAnswer : Type 0 where

@@ -4,7 +4,7 @@ use mathlib.Core.Bool.{Bool, true, false, cond, _||_}
 use mathlib.Core.List.{List, [], _∷_, map}
 use lib.Dec.{eqb}
 use lib.ListN.{take}
-use Rattle.model.specs.Words.{whenCall, recalled}
+use Rattle.model.specs.Words.{whenCall, renumbered}
 use Rattle.model.specs.Trees.{Rule}
 
 -- the words call rule j
@@ -36,7 +36,7 @@ keptBelow kept j = howMany (take j kept)
 abbrev pub keep : List Bool → List Bool → List Rule → List Rule
 keep kept [] rs = []
 keep kept (k ∷ ks) [] = []
-keep kept (true ∷ ks) (r ∷ rs) = record { rank = r .rank; body = map (recalled (keptBelow kept)) (r .body) } ∷ keep kept ks rs
+keep kept (true ∷ ks) (r ∷ rs) = record { rank = r .rank; body = map (renumbered (keptBelow kept)) (r .body) } ∷ keep kept ks rs
 keep kept (false ∷ ks) (r ∷ rs) = keep kept ks rs
 
 -- "Rules that the start rule doesn't reach are dropped; the rest keep their order."

@@ -14,9 +14,9 @@ abbrev pub bytesOf : ℕ → ℕ → List ℕ
 bytesOf zero n = []
 bytesOf (suc k) n = n % 256 ∷ bytesOf k (n / 256)
 
-abbrev pub numberAt : List ℕ → ℕ
-numberAt [] = 0
-numberAt (b ∷ bs) = b + 256 * numberAt bs
+abbrev pub numberIn : List ℕ → ℕ
+numberIn [] = 0
+numberIn (b ∷ bs) = b + 256 * numberIn bs
 
 -- a word is two bytes
 abbrev pub wordsIn : List ℕ → List ℕ
@@ -30,10 +30,10 @@ wordBytes (w ∷ ws) = bytesOf 2 w ++ wordBytes ws
 
 -- "32-bit payload length, 16-bit kind, payload"
 abbrev pub payloadLength : List ℕ → ℕ
-payloadLength bytes = numberAt (take 4 bytes)
+payloadLength bytes = numberIn (take 4 bytes)
 
 abbrev pub kindIn : List ℕ → ℕ
-kindIn bytes = numberAt (take 2 (drop 4 bytes))
+kindIn bytes = numberIn (take 2 (drop 4 bytes))
 
 abbrev pub payloadIn : List ℕ → List ℕ
 payloadIn bytes = take (payloadLength bytes) (drop 6 bytes)
@@ -55,10 +55,10 @@ recordRefusals kind allowed bytes =
 
 -- "Head, kind 1, payload 4 bytes: edition (1), rule count n (1 to 256), 16 bits each", "then 4 for the head"
 abbrev pub editionIn : List ℕ → ℕ
-editionIn bytes = numberAt (take 2 (payloadIn bytes))
+editionIn bytes = numberIn (take 2 (payloadIn bytes))
 
 abbrev pub ruleCount : List ℕ → ℕ
-ruleCount bytes = numberAt (take 2 (drop 2 (payloadIn bytes)))
+ruleCount bytes = numberIn (take 2 (drop 2 (payloadIn bytes)))
 
 abbrev pub headRefusals : List ℕ → List (Bool × Refusal)
 headRefusals bytes =
@@ -67,7 +67,7 @@ headRefusals bytes =
 
 -- "n rules, kind 2: rank (16 bits), then the body's words. The payload is even and at least 4 bytes."
 abbrev pub ruleIn : List ℕ → Rule
-ruleIn bytes = record { rank = numberAt (take 2 (payloadIn bytes)); body = wordsIn (drop 2 (payloadIn bytes)) }
+ruleIn bytes = record { rank = numberIn (take 2 (payloadIn bytes)); body = wordsIn (drop 2 (payloadIn bytes)) }
 
 -- "or 5, 6 over the whole body, 7": rule r on the ranks of the rules below it, `last` where it is the start
 abbrev pub ruleRefusals : List ℕ → Bool → List ℕ → List (Bool × Refusal)
@@ -79,9 +79,9 @@ ruleRefusals ranks last bytes =
     ∷ [])
 
 -- "then 8, 10 (lowest rule), 11"
-abbrev pub wholeRefusals : List Rule → List ℕ → Result (List Rule)
-wholeRefusals rules (b ∷ bs) = refused TRAIL (suc (length rules))
-wholeRefusals rules [] =
+abbrev pub readWhole : List Rule → List ℕ → Result (List Rule)
+readWhole rules (b ∷ bs) = refused TRAIL (suc (length rules))
+readWhole rules [] =
     elim (lowestHuge 0 (expansions rules)) [
       | some r ↦ refused HUGE (suc r)
       | none ↦ elim (eqb (nodes rules) 1) [ true ↦ refused EMPTY 0 | false ↦ taken rules ]
@@ -89,7 +89,7 @@ wholeRefusals rules [] =
 
 -- "record by record": `due` rules are still due after `rules`. "The place is the record number (head 0, rule r is r + 1, 8 gives n + 1)."
 abbrev pub readRules : ℕ → List Rule → List ℕ → Result (List Rule)
-readRules zero rules bytes = wholeRefusals rules bytes
+readRules zero rules bytes = readWhole rules bytes
 readRules (suc due) rules bytes =
     elim (firstOf (ruleRefusals (ranksOf rules) (eqb due 0) bytes)) [
       | some x ↦ refused x (suc (length rules))

@@ -18,8 +18,8 @@ abbrev pub ownerOf : List Rule → List ℕ → ℕ → ℕ
 ownerOf rules ws p = getD (owners (ranksOf rules) (expansions rules) ws) p 0
 
 -- the call of rule r at place i "is replaced by its rule's body, its children put in"
-abbrev pub opensCall : List Rule → Rule → ℕ → List ℕ → List ℕ
-opensCall rules r i ws =
+abbrev pub callOpened : List Rule → Rule → ℕ → List ℕ → List ℕ
+callOpened rules r i ws =
     take i ws
     ++ fill (λ v. v) (take (r .rank) (forest (ranksOf rules) (drop (suc i) ws))) (r .body)
     ++ join (drop (r .rank) (forest (ranksOf rules) (drop (suc i) ws)))
@@ -37,7 +37,7 @@ openings (suc most) rules ws p =
     elim (called (getD ws (ownerOf rules ws p) 0)) [
       | none ↦ record { words = ws; place = ownerOf rules ws p; opened = [] }
       | some j ↦
-          let next = openings most rules (opensCall rules (ruleAt rules j) (ownerOf rules ws p) ws) p in
+          let next = openings most rules (callOpened rules (ruleAt rules j) (ownerOf rules ws p) ws) p in
           record { words = next .words; place = next .place; opened = j ∷ next .opened }
     ]
 

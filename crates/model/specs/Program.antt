@@ -6,7 +6,7 @@ use lib.Dec.{ltb, eqb}
 use lib.ListN.{length, take, drop}
 use Rattle.model.specs.Words.{within}
 use Rattle.model.specs.Refusals.{REQUEST}
-use Rattle.model.specs.File.{bytesOf, numberAt, wordsIn, payloadLength, kindIn, payloadIn, afterRecord, recordOf, isEven, largestFile}
+use Rattle.model.specs.File.{bytesOf, numberIn, wordsIn, payloadLength, kindIn, payloadIn, afterRecord, recordOf, isEven, largestFile}
 use Rattle.model.specs.Edits.{Edit, rename, insert, delete, Update}
 use Rattle.model.specs.Answers.{Answer, FileAnswer, refusal, update, leastWork}
 
@@ -26,12 +26,12 @@ requestRefused bytes =
 
 abbrev pub editIn : List ℕ → Edit
 editIn bytes =
-    cond (eqb (kindIn bytes) 16) (rename (numberAt (drop 8 (payloadIn bytes))))
+    cond (eqb (kindIn bytes) 16) (rename (numberIn (drop 8 (payloadIn bytes))))
     (cond (eqb (kindIn bytes) 17) delete
     (insert (wordsIn (drop 8 (payloadIn bytes)))))
 
 abbrev pub updateIn : List ℕ → Update
-updateIn bytes = record { at = numberAt (take 8 (payloadIn bytes)); edit = editIn bytes }
+updateIn bytes = record { at = numberIn (take 8 (payloadIn bytes)); edit = editIn bytes }
 
 -- "It writes an answer record, kind 3, payload 8 bytes (number, place, opened, rounds, 16 bits each), then the file if accepted."
 abbrev pub answerRecord : Answer → List ℕ

@@ -31,6 +31,12 @@ numberOf ROOM = 19
 numberOf WORK = 20
 numberOf REQUEST = 21
 
+-- the table's rows, from number 1 on
+abbrev pub everyRefusal : List Refusal
+everyRefusal =
+    SHORT ∷ KIND ∷ LENGTH ∷ HEAD ∷ RANK ∷ SYMBOL ∷ BODY ∷ TRAIL ∷ LARGE ∷ HUGE ∷ EMPTY
+    ∷ POSITION ∷ NODE ∷ LABEL ∷ TREE ∷ NOTHING-LEFT ∷ OUTGROWN ∷ FULL ∷ ROOM ∷ WORK ∷ REQUEST ∷ []
+
 -- the name, in ASCII
 abbrev pub nameOf : Refusal → List ℕ
 nameOf SHORT = 83 ∷ 72 ∷ 79 ∷ 82 ∷ 84 ∷ []

@@ -5,7 +5,7 @@ use mathlib.Core.List.{List, [], _∷_, _++_}
 use mathlib.Core.Option.{Option, none, some}
 use lib.Dec.{leb, ltb, eqb}
 use lib.ListN.{length, take, drop, getD, set, replicate}
-use Rattle.model.specs.Words.{classOf, byClass, whenCall, recalled, callWord, rankOf}
+use Rattle.model.specs.Words.{Class, classOf, byClass, whenCall, renumbered, callWord, rankOf}
 use Rattle.model.specs.Trees.{Rule, roots, parameters, ranksOf, mostRules}
 
 -- "A digram (a, i, b) is a word a with i-th child b"
@@ -15,8 +15,11 @@ pub record Digram : Type 0 where
   pub b : ℕ
 
 -- "neither is ⊥ or a parameter"
-abbrev pub joins : ℕ → Bool
-joins w = byClass false true (λ n. false) (λ j. true) false (classOf w)
+abbrev pub isLabelOrCallAs : Class → Bool
+isLabelOrCallAs = byClass (record { empty = false; label = true; parameter = λ i. false; call = λ j. true; illegal = false })
+
+abbrev pub isLabelOrCall : ℕ → Bool
+isLabelOrCall w = isLabelOrCallAs (classOf w)
 
 -- the words at the roots of w's children, where ws are the words after w
 abbrev pub children : List ℕ → ℕ → List ℕ → List ℕ
@@ -24,7 +27,7 @@ children ranks w ws = take (rankOf ranks w) (roots ranks ws)
 
 abbrev pub digramsOver : ℕ → ℕ → List ℕ → List Digram
 digramsOver a i [] = []
-digramsOver a i (b ∷ bs) = cond (joins a && joins b) (record { a = a; i = i; b = b } ∷ []) [] ++ digramsOver a (suc i) bs
+digramsOver a i (b ∷ bs) = cond (isLabelOrCall a && isLabelOrCall b) (record { a = a; i = i; b = b } ∷ []) [] ++ digramsOver a (suc i) bs
 
 abbrev pub digramsIn : List ℕ → List ℕ → List Digram
 digramsIn ranks [] = []
@@ -126,7 +129,7 @@ replaced m ps [] = []
 replaced m [] (w ∷ ws) = []
 replaced m (upper ∷ ps) (w ∷ ws) = callWord m ∷ replaced m ps ws
 replaced m (lower ∷ ps) (w ∷ ws) = replaced m ps ws
-replaced m (other ∷ ps) (w ∷ ws) = recalled (up m) w ∷ replaced m ps ws
+replaced m (other ∷ ps) (w ∷ ws) = renumbered (up m) w ∷ replaced m ps ws
 
 -- "a over b, their other children being y1 to yk in order"
 abbrev pub newRule : List ℕ → Digram → Rule

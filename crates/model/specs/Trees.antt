@@ -5,7 +5,7 @@ use mathlib.Core.List.{List, [], _∷_, _++_}
 use mathlib.Core.Option.{Option, none, some}
 use lib.Dec.{leb, ltb, eqb}
 use lib.ListN.{length, take, drop, getD}
-use Rattle.model.specs.Words.{classOf, byClass, whenParameter, whenCall, rankOf, isParameter, isTreeWord, parameterWord}
+use Rattle.model.specs.Words.{Class, classOf, byClass, whenParameter, whenCall, rankOf, isParameter, isTreeWord, parameterWord}
 
 abbrev pub all : (ℕ → Bool) → List ℕ → Bool
 all test [] = true
@@ -28,12 +28,12 @@ join (l ∷ ls) = l ++ join ls
 
 -- "A tree is written as its labels in preorder." So a list of words is read from the right as a stack of trees: a word of rank k takes the k trees on top
 -- and puts one in their place. What a tree becomes is `make`'s to say.
-abbrev pub put : {W A : Type 0} → (W → ℕ) → (W → List A → A) → W → List A → List A
-put rank make w stack = make w (take (rank w) stack) ∷ drop (rank w) stack
+abbrev pub push : {W A : Type 0} → (W → ℕ) → (W → List A → A) → W → List A → List A
+push rank make w stack = make w (take (rank w) stack) ∷ drop (rank w) stack
 
 abbrev pub fold : {W A : Type 0} → (W → ℕ) → (W → List A → A) → List W → List A → List A
 fold rank make [] stack = stack
-fold rank make (w ∷ ws) stack = put rank make w (fold rank make ws stack)
+fold rank make (w ∷ ws) stack = push rank make w (fold rank make ws stack)
 
 -- the trees that a list of words is, each as its words
 abbrev pub forest : List ℕ → List ℕ → List (List ℕ)
@@ -78,8 +78,11 @@ abbrev pub obeys : List ℕ → ℕ → List ℕ → Bool
 obeys ranks k body = isTree ranks body && same (those isParameter body) (parameters k) && not (same body (parameterWord 1 ∷ []))
 
 -- "Rule r calls only rules with lower numbers."
+abbrev pub isLegalAs : ℕ → Class → Bool
+isLegalAs r = byClass (record { empty = true; label = true; parameter = λ i. true; call = λ j. ltb j r; illegal = false })
+
 abbrev pub isLegal : ℕ → ℕ → Bool
-isLegal r w = byClass true true (λ n. true) (λ j. ltb j r) false (classOf w)
+isLegal r w = isLegalAs r (classOf w)
 
 -- "To expand a call is to put the body in its place, with the call's i-th child for y_i": the word list with the i-th of `children` for y_i.
 -- `node` says what stands for each word that is no parameter.

@@ -33,34 +33,53 @@ abbrev pub callWord : ℕ → ℕ
 callWord j = 49152 + j
 
 -- a value for each row of the table
-abbrev pub byClass : {A : Type 0} → A → A → (ℕ → A) → (ℕ → A) → A → Class → A
-byClass e l p c i empty = e
-byClass e l p c i label = l
-byClass e l p c i (parameter n) = p n
-byClass e l p c i (call j) = c j
-byClass e l p c i illegal = i
+pub record Rows (A : Type 0) : Type 0 where
+  pub empty : A
+  pub label : A
+  pub parameter : ℕ → A
+  pub call : ℕ → A
+  pub illegal : A
+
+abbrev pub byClass : {A : Type 0} → Rows A → Class → A
+byClass rows empty = rows .empty
+byClass rows label = rows .label
+byClass rows (parameter i) = rows .parameter i
+byClass rows (call j) = rows .call j
+byClass rows illegal = rows .illegal
 
 -- f of the parameter's number where w is a parameter, f of the rule called where w is a call; `other` where it is not
 abbrev pub whenParameter : {A : Type 0} → A → (ℕ → A) → ℕ → A
-whenParameter other f w = byClass other other f (λ j. other) other (classOf w)
+whenParameter other f w = byClass (record { empty = other; label = other; parameter = f; call = λ j. other; illegal = other }) (classOf w)
 
 abbrev pub whenCall : {A : Type 0} → A → (ℕ → A) → ℕ → A
-whenCall other f w = byClass other other (λ n. other) f other (classOf w)
+whenCall other f w = byClass (record { empty = other; label = other; parameter = λ i. other; call = f; illegal = other }) (classOf w)
 
 -- w with rule `number j` called where it calls rule j
-abbrev pub recalled : (ℕ → ℕ) → ℕ → ℕ
-recalled number w = whenCall w (λ j. callWord (number j)) w
+abbrev pub renumbered : (ℕ → ℕ) → ℕ → ℕ
+renumbered number w = whenCall w (λ j. callWord (number j)) w
 
 -- The column "Rank": ⊥ 0, an element label 2, a parameter 0, a call the rank of the rule called. `ranks` has the rules' ranks, rule 0's first.
+abbrev pub rankAs : List ℕ → Class → ℕ
+rankAs ranks = byClass (record { empty = 0; label = 2; parameter = λ i. 0; call = λ j. getD ranks j 0; illegal = 0 })
+
 abbrev pub rankOf : List ℕ → ℕ → ℕ
-rankOf ranks w = byClass 0 2 (λ n. 0) (λ j. getD ranks j 0) 0 (classOf w)
+rankOf ranks w = rankAs ranks (classOf w)
+
+abbrev pub isParameterAs : Class → Bool
+isParameterAs = byClass (record { empty = false; label = false; parameter = λ i. true; call = λ j. false; illegal = false })
 
 abbrev pub isParameter : ℕ → Bool
-isParameter w = whenParameter false (λ n. true) w
+isParameter w = isParameterAs (classOf w)
+
+abbrev pub isLabelAs : Class → Bool
+isLabelAs = byClass (record { empty = false; label = true; parameter = λ i. false; call = λ j. false; illegal = false })
 
 abbrev pub isLabel : ℕ → Bool
-isLabel w = byClass false true (λ n. false) (λ j. false) false (classOf w)
+isLabel w = isLabelAs (classOf w)
 
 -- a tree is written in labels and ⊥
+abbrev pub isTreeWordAs : Class → Bool
+isTreeWordAs = byClass (record { empty = true; label = true; parameter = λ i. false; call = λ j. false; illegal = false })
+
 abbrev pub isTreeWord : ℕ → Bool
-isTreeWord w = byClass true true (λ n. false) (λ j. false) false (classOf w)
+isTreeWord w = isTreeWordAs (classOf w)

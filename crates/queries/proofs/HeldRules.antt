@@ -11,10 +11,10 @@ use Rattle.model.specs.Words.{rankOf, isParameter}
 use Rattle.model.specs.Trees.{Rule, size, all, those, isLegal, expansions, ranksOf, fold, join}
 use Rattle.laws.specs.Formed.{formed, Fits, Tree, bodyAt, height}
 use Rattle.laws.specs.Sums.{sumOf}
-use Rattle.laws.proofs.Fills.{length-parametersFrom}
-use Rattle.laws.proofs.Grown.{grownWord}
-use Rattle.laws.proofs.Grammar.{rule-of, formed-env, expansions-solve, expansion-tree}
-use Rattle.laws.proofs.Grammar as grammar
+use Rattle.laws.proofs.Trees.Fills.{length-parametersFrom}
+use Rattle.laws.proofs.Trees.Grown.{grownWord}
+use Rattle.laws.proofs.Trees.Grammar.{rule-of, formed-env, expansions-solve, expansion-tree}
+use Rattle.laws.proofs.Trees.Grammar as grammar
 use Rattle.grammar.specs.Meaning.{bodyIn, entries, Bodies, placeAfter, padded, ranksIn}
 use Rattle.grammar.specs.Measures.{gapRows, Denotes}
 use Rattle.model.specs.Refusals.{taken}

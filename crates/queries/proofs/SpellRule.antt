@@ -14,9 +14,9 @@ use Rattle.model.specs.Words.{Class, empty, label, parameter, call, illegal, cl
 use Rattle.model.specs.Trees.{all, those, isLegal, fold, join}
 use Rattle.laws.specs.Formed.{Fits}
 use Rattle.laws.specs.Sums.{sumOf}
-use Rattle.laws.proofs.Lists.{all-cons}
-use Rattle.laws.proofs.Folds.{length-fold}
-use Rattle.laws.proofs.Fills.{those-in}
+use Rattle.laws.proofs.Words.Lists.{all-cons}
+use Rattle.laws.proofs.Trees.Folds.{length-fold}
+use Rattle.laws.proofs.Trees.Fills.{those-in}
 use Rattle.queries.specs.Pieces.{stop, after, Spelled, Entry, Entries, wanted, allWanted, Closes, Closable, over, firstGap, ownPieces, ownTop, ownGap, ownStarts, upTo, pastAll}
 use Rattle.queries.proofs.Spelling.{Agree, spelled-agree}
 use Rattle.queries.proofs.Closing.{Now, wanted-agree, entries-set}

@@ -11,8 +11,8 @@ use lib.Seq.{getD-set-same, getD-set-other, set-out}
 use borrow.Author.Tests.{ltb-true, ltb-false, eqb-true, eqb-false, lt-leb, le-leb}
 use Rattle.model.specs.Words.{Class, empty, label, parameter, call, illegal, classOf, rankOf, isParameter}
 use Rattle.model.specs.Trees.{those, isLegal}
-use Rattle.laws.proofs.Legal.{legal-call}
-use Rattle.laws.proofs.Fills.{those-in, those-out}
+use Rattle.laws.proofs.Trees.Legal.{legal-call}
+use Rattle.laws.proofs.Trees.Fills.{those-in, those-out}
 use Rattle.queries.specs.Pieces.{stop, Entry, wanted, firstGap, ownPieces, ownTop, ownGap, ownStarts}
 use Rattle.queries.proofs.Spelling.{Agree}
 

@@ -13,7 +13,7 @@ use lib.ListN.{length, getD, set, length-set, length-append}
 use lib.Seq.{getD-set-same, getD-set-other}
 use borrow.Author.Tests.{leb-true, leb-false, ltb-true, eqb-true, eqb-false, ne-eqb, eq-eqb, le-ltb, lt-leb, le-leb}
 use Rattle.model.specs.Trees.{all}
-use Rattle.laws.proofs.Lists.{all-append}
+use Rattle.laws.proofs.Words.Lists.{all-append}
 use Rattle.queries.specs.Pieces.{stop, unstopped, meant, spelled, Run, Part, Slice, Spelled, codeFor, putIn, putTop}
 use Rattle.queries.proofs.Stops.{small-unstopped}
 

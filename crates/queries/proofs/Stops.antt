@@ -8,13 +8,13 @@ use mathlib.Core.List.{List, [], _∷_, _++_, map}
 use lib.Dec.{T, eqb}
 use lib.ListN.{length, getD, List·getD-eq-default}
 use borrow.Author.Tests.{eqb-true, ne-eqb}
-use Rattle.model.specs.Words.{Class, empty, label, parameter, call, illegal, classOf, byClass, within, isParameter, isTreeWord}
+use Rattle.model.specs.Words.{Class, empty, label, parameter, call, illegal, classOf, within, isParameter, isTreeWord, isTreeWordAs}
 use Rattle.model.specs.Trees.{all, gapSizes, oneMore}
-use Rattle.laws.proofs.Classes.{within-bounds}
+use Rattle.laws.proofs.Words.Classes.{within-bounds}
 use lib.Ieee.Fits.{and-i}
-use Rattle.laws.proofs.Lists.{all-cons}
-use Rattle.laws.proofs.Grown.{grownWord}
-use Rattle.laws.proofs.Sizes.{length-gaps}
+use Rattle.laws.proofs.Words.Lists.{all-cons}
+use Rattle.laws.proofs.Trees.Grown.{grownWord}
+use Rattle.laws.proofs.Sizes.Gaps.{length-gaps}
 use Rattle.queries.specs.Pieces.{stop, stopped, unstopped, upTo, past, pastAll, gapOf}
 
 pub past-pastAll : (m : ℕ) (ws : List ℕ) → past (pastAll m ws) ≡ pastAll (suc m) ws
@@ -75,7 +75,7 @@ unfolding classOf
 tree-word w t = go (eqb w 0) (within 1 32767 w) (within 32769 32772 w) (within 49152 49407 w) refl refl t
   where
     go : (a b c d : Bool) → eqb w 0 ≡ a → within 1 32767 w ≡ b
-        → T (byClass true true (λ n. false) (λ j. false) false (cond a empty (cond b label (cond c (parameter (w - 32768)) (cond d (call (w - 49152)) illegal))))) → w < 32768
+        → T (isTreeWordAs (cond a empty (cond b label (cond c (parameter (w - 32768)) (cond d (call (w - 49152)) illegal))))) → w < 32768
     go true b c d x y t = omega (arith, eqb-true w 0 x)
     go false true c d x y t = let k = within-bounds 1 32767 w y in omega arith
     go false false true d x y t = absurd t

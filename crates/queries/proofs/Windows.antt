@@ -10,14 +10,14 @@ use lib.ListN.{length, take, drop, getD, replicate, length-replicate}
 use lib.Seq.{drop-cons}
 use borrow.Author.Tests.{lt-ltb, le-ltb, leb-true, leb-false}
 use Rattle.model.specs.Words.{byClass, isTreeWord}
-use Rattle.laws.proofs.Classes.{by-explicit}
+use Rattle.laws.proofs.Words.Classes.{by-explicit}
 use Rattle.model.specs.Trees.{Rule, all, treeOf, nodes, expansions}
 use Rattle.model.specs.Refusals.{Refusal, Result, taken, refused, POSITION}
 use Rattle.model.specs.File.{read}
 use Rattle.model.specs.Answers.{Answer, LabelAnswer, WindowAnswer, accepted, refusal, labelAs, labelAt, windowAs, windowAt}
 use Rattle.laws.specs.Formed.{Tree}
-use Rattle.laws.proofs.Grammar.{tree-plain}
-use Rattle.laws.proofs.Lists.{all-cons}
+use Rattle.laws.proofs.Trees.Grammar.{tree-plain}
+use Rattle.laws.proofs.Words.Lists.{all-cons}
 use Rattle.grammar.specs.Meaning.{readingOf, queryAnswer}
 use Rattle.grammar.proofs.Answering.{query-refused}
 use Rattle.grammar.specs.Measures.{Denotes}
@@ -37,7 +37,7 @@ tree-stopped : (ws : List ℕ) → T (all isTreeWord ws) → map stopped ws ≡ 
 tree-stopped [] t = refl
 tree-stopped (w ∷ ws) t =
     let h = all-cons isTreeWord w ws t in
-    ap₂ (λ (v : ℕ) (l : List ℕ). v ∷ l) (by-explicit (λ c. byClass w w (λ n. stop) (λ j. w) w c ≡ w) refl refl w (h .0)) (tree-stopped ws (h .1))
+    ap₂ (λ (v : ℕ) (l : List ℕ). v ∷ l) (by-explicit (λ c. byClass (record { empty = w; label = w; parameter = λ n. stop; call = λ j. w; illegal = w }) c ≡ w) refl refl w (h .0)) (tree-stopped ws (h .1))
 
 tree-unstopped : (ws : List ℕ) → T (all isTreeWord ws) → T (all unstopped ws)
 tree-unstopped [] t = tt

@@ -9,10 +9,10 @@ use lib.ListN.{length, take, drop, getD, length-take, length-map, List·getD-map
 use Rattle.model.specs.Words.{Class, empty, label, parameter, call, illegal, classOf, rankOf, isParameter}
 use Rattle.model.specs.Trees.{all, those, join, fold, fill, grow, isLegal, expand}
 use Rattle.laws.specs.Formed.{Env, stackOf}
-use Rattle.laws.proofs.Lists.{all-cons, map-take, map-drop}
-use Rattle.laws.proofs.Grown.{grownWord}
-use Rattle.laws.proofs.Fills.{those-in, those-out, in-order, length-parametersFrom}
-use Rattle.laws.proofs.Expansion.{weave, fill-weave}
+use Rattle.laws.proofs.Words.Lists.{all-cons, map-take, map-drop}
+use Rattle.laws.proofs.Trees.Grown.{grownWord}
+use Rattle.laws.proofs.Trees.Fills.{those-in, those-out, in-order, length-parametersFrom}
+use Rattle.laws.proofs.Trees.Expansion.{weave, fill-weave}
 use Rattle.queries.specs.Pieces.{stopped, unstopped, upTo, past, pastAll, gapOf, between, over}
 use Rattle.queries.proofs.Stops.{Kind, param, word, kind, upTo-on, past-on, past-pastAll, small-unstopped, gap-at}
 

@@ -143,10 +143,10 @@ pub record Closable (sizes starts pieces opens : List ℕ) (top depth : ℕ) : T
 
 -- what a word itself gives, and the first of its gaps; what has no gaps has 1,280, which no rule has
 abbrev pub own : ℕ → List ℕ
-own w = byClass (w ∷ []) (w ∷ []) (λ n. stop ∷ []) (λ j. []) (w ∷ []) (classOf w)
+own w = byClass (record { empty = w ∷ []; label = w ∷ []; parameter = λ n. stop ∷ []; call = λ j. []; illegal = w ∷ [] }) (classOf w)
 
 abbrev pub firstGap : ℕ → ℕ
-firstGap w = byClass 1280 1280 (λ n. 1280) (λ j. 5 * j) 1280 (classOf w)
+firstGap w = byClass (record { empty = 1280; label = 1280; parameter = λ n. 1280; call = λ j. 5 * j; illegal = 1280 }) (classOf w)
 
 -- gaps g, g + 1, .. with k trees between them
 abbrev pub between : (ℕ → List ℕ) → ℕ → ℕ → List (List ℕ) → List ℕ
@@ -159,10 +159,10 @@ over G rank w ts = own w ++ between G (firstGap w) (rank w) ts
 
 -- a word of a body put at the place top: a label or ⊥ as itself, a parameter as a stop, after which the next gap starts
 abbrev pub ownPieces : ℕ → List ℕ → ℕ → List ℕ
-ownPieces w pieces top = byClass (set pieces top w) (set pieces top w) (λ n. set pieces top stop) (λ j. pieces) (set pieces top w) (classOf w)
+ownPieces w pieces top = byClass (record { empty = set pieces top w; label = set pieces top w; parameter = λ n. set pieces top stop; call = λ j. pieces; illegal = set pieces top w }) (classOf w)
 
 abbrev pub ownTop : ℕ → ℕ → ℕ
-ownTop w top = byClass (top + 1) (top + 1) (λ n. top + 1) (λ j. top) (top + 1) (classOf w)
+ownTop w top = byClass (record { empty = top + 1; label = top + 1; parameter = λ n. top + 1; call = λ j. top; illegal = top + 1 }) (classOf w)
 
 abbrev pub ownGap : ℕ → ℕ → ℕ
 ownGap w gap = whenParameter gap (λ n. gap + 1) w

@@ -4,18 +4,13 @@ use mathlib.Core.Bool.{Bool, true, false}
 use mathlib.Core.List.{List, [], _∷_, _++_}
 use lib.Dec.{eqb}
 use lib.ListN.{getD}
-use Rattle.model.specs.Refusals.{Refusal, SHORT, KIND, LENGTH, HEAD, RANK, SYMBOL, BODY, TRAIL, LARGE, HUGE, EMPTY, POSITION, NODE, LABEL, TREE, NOTHING-LEFT, OUTGROWN, FULL, ROOM, WORK, REQUEST, nameOf}
+use Rattle.model.specs.Refusals.{REQUEST, everyRefusal, nameOf}
 use Rattle.model.specs.Answers.{Answer}
 use Rattle.text.specs.Numbers.{decimal}
 
--- document 01's table, from number 1 on
-abbrev pub refusals : List Refusal
-refusals =
-    SHORT ∷ KIND ∷ LENGTH ∷ HEAD ∷ RANK ∷ SYMBOL ∷ BODY ∷ TRAIL ∷ LARGE ∷ HUGE ∷ EMPTY ∷ POSITION ∷ NODE ∷ LABEL ∷ TREE ∷ NOTHING-LEFT ∷ OUTGROWN ∷ FULL ∷ ROOM ∷ WORK ∷ REQUEST ∷ []
-
 -- the name of a refusal's number
 abbrev pub nameBy : ℕ → List ℕ
-nameBy number = nameOf (getD refusals (number - 1) REQUEST)
+nameBy number = nameOf (getD everyRefusal (number - 1) REQUEST)
 
 -- "accepted", "refused ", " ", " place " and the line's end
 abbrev pub acceptedText : List ℕ

@@ -7,7 +7,7 @@ use native.Mathlib.Omega.{arith}
 use lib.ListN.{length, replicate}
 use denote.Ref.{now}
 use Rattle.model.specs.Trees.{expansions, lowestHuge}
-use Rattle.model.specs.File.{wholeRefusals}
+use Rattle.model.specs.File.{readWhole}
 use Rattle.grammar.specs.declared.refusals.Refusal.the-variants as refusals
 use Rattle.grammar.specs.Meaning.{writtenRules}
 use Rattle.grammar.proofs.ReadLaws.{refused-is, taken-is, whole-huge, whole-empty, whole-taken}
@@ -92,7 +92,7 @@ returns c =
     let s = d .before .before .before .before .before .before .before .before .before .before in
     let rules = writtenRules (now (s .args .file)) in
     let f = fit d in
-    refused-is (now (s .args .file)) (wholeRefusals rules []) (now (s .args .table)) _ (now (s .args .sizes)) _ refusals.Empty 0
+    refused-is (now (s .args .file)) (readWhole rules []) (now (s .args .table)) _ (now (s .args .sizes)) _ refusals.Empty 0
     (whole-empty rules (f .none-over) (sym (f .counted) ∙ sym (c .before .before .before .before .before .before .before .before .before .first-gaps .ensures .0) ∙ c .before .before .before .before .before .before .before .before .if1 .taken))
     (c .before .before .before .before .before .before .clear-words2 .ensures)
     (c .before .before .clear-sizes2 .ensures ∙ ap (λ (k : ℕ). replicate k 0) (f .as-long))
@@ -109,7 +109,7 @@ returns-2 c =
     let s = d .before .before .before .before .before .before .before .before .before .before in
     let rules = writtenRules (now (s .args .file)) in
     let k = d .r .given .0 .0 in
-    refused-is (now (s .args .file)) (wholeRefusals rules []) (now (s .args .table)) _ (now (s .args .sizes)) _ refusals.Huge (k + 1)
+    refused-is (now (s .args .file)) (readWhole rules []) (now (s .args .table)) _ (now (s .args .sizes)) _ refusals.Huge (k + 1)
     (whole-huge rules k (huge d .0))
     (c .before .before .before .before .before .before .clear-words .ensures)
     (c .before .before .clear-sizes .ensures ∙ ap (λ (k : ℕ). replicate k 0) (huge d .2))
@@ -128,7 +128,7 @@ returns-3 c =
     let rules = writtenRules (now (s .args .file)) in
     let M = s .pre .0 in
     let f = fit d in
-    taken-is (now (s .args .file)) (wholeRefusals rules []) (now (s .args .table)) _ (now (s .args .sizes)) _ n rules
+    taken-is (now (s .args .file)) (readWhole rules []) (now (s .args .table)) _ (now (s .args .sizes)) _ n rules
     (whole-taken rules (f .none-over) (λ q. c .if1 .left (c .before .first-gaps .ensures .0 ∙ f .counted ∙ q)))
     (M .count ∙ sym (s .pre .1)) (M .entered) (f .gaps) (M .bodies, M .within, M .short)
 

@@ -4,7 +4,7 @@ use Prim.Native.Nat.{_<_}
 use mathlib.Core.Path.{_≡_, sym, ap, refl, _∙_}
 use native.Mathlib.Omega.{arith}
 use Rattle.model.specs.Words.{classOf, call}
-use Rattle.laws.proofs.Classes.{call-word}
+use Rattle.laws.proofs.Words.Classes.{call-word}
 use Rattle.grammar.specs.Meaning.{classIs}
 use Rattle.grammar.proofs.sizes.own.Statement.{statement}
 use Rattle.grammar.proofs.sizes.own.Tie as tie

@@ -1,0 +1,148 @@
+-- What stands before a place of a body: a complete tree put there stands whole in the expansion, after as many nodes as the words before it add up to.
+use Prim.Native.Nat.{ℕ, zero, suc, _+_, _-_, _<_}
+use mathlib.Core.Path.{_≡_, refl, sym, ap, _∙_}
+use mathlib.Core.Bool.{Bool, true, false, cond}
+use mathlib.Core.List.{List, [], _∷_, _++_, append-assoc}
+use native.Mathlib.Nat.{zero-add, add-zero, add-assoc}
+use native.Mathlib.Omega.{arith}
+use borrow.Author.Tests.{le-ltb, lt-ltb}
+use lib.Dec.{ltb}
+use lib.ListN.{length, take, drop, getD}
+use lib.Seq.{take-all, append-snoc}
+use Rattle.model.specs.Words.{rankOf, isParameter, rankAs}
+use Rattle.model.specs.Trees.{join, those, grow, expand, size, gapSizes}
+use Rattle.laws.specs.Formed.{height, Fits, Tree, Env, stackOf}
+use Rattle.laws.specs.Sums.{sumOf, sum, ownSize, sizeBefore, ownBefore, depthOf, beforeAt, beforePlace}
+use Rattle.laws.proofs.Trees.Folds.{fold-append, fits-split, tree-front}
+use Rattle.laws.proofs.Trees.Expansion.{stack-tree}
+use Rattle.laws.proofs.Trees.Fills.{those-in, those-out, size-node, size-param, grow-other, parameter-class}
+use Rattle.laws.proofs.Sizes.Gaps.{length-gaps, size-gaps, length-size}
+use Rattle.laws.proofs.Sizes.Within.{expand-around}
+use Rattle.laws.proofs.Sizes.Inserted.{before-node, before-param}
+
+module _ (ranks : List ℕ) (lower : List (List ℕ)) where
+  -- a complete tree put there
+  pub expand-place : (xs t ys : List ℕ) → Tree ranks t → expand ranks lower (xs ++ t ++ ys) ≡ join (stackOf ranks lower xs (expand ranks lower t ∷ stackOf ranks lower ys []))
+  expand-place xs t ys tr =
+      ap join
+      (fold-append (rankOf ranks) (grow (λ v. v) lower) (xs ++ t) ys []
+      ∙ fold-append (rankOf ranks) (grow (λ v. v) lower) xs t (stackOf ranks lower ys [])
+      ∙ ap (stackOf ranks lower xs) (stack-tree ranks lower t (stackOf ranks lower ys []) tr))
+
+  -- a parameter is itself
+  pub parameter-rank : (y : ℕ) → isParameter y ≡ true → rankOf ranks y ≡ 0
+  parameter-rank y e = ap (rankAs ranks) (parameter-class y e .1)
+
+  pub parameter-tree : (y : ℕ) → isParameter y ≡ true → Tree ranks (y ∷ []) × (expand ranks lower (y ∷ []) ≡ y ∷ [])
+  parameter-tree y e =
+      let z = parameter-rank y e in
+      let c = parameter-class y e .1 in (
+        ((omega arith, tt), omega arith),
+        ap join
+            (ap (λ (k : ℕ). grow (λ v. v) lower y (take k []) ∷ drop k []) z
+            ∙ ap (λ (l : List ℕ). l ∷ []) (grow-other (λ v. v) lower [] y (λ j x. let w : _≡_ {A = ℕ} 0 1 = cc in omega arith))),
+      )
+
+-- the gaps up to a parameter are what stands before it
+pub before-parameter : (P : List ℕ) (y : ℕ) (S : List ℕ) → isParameter y ≡ true → sizeBefore (suc (length (those isParameter P))) (P ++ y ∷ S) ≡ size P
+before-parameter [] y S e = before-param 0 y S e
+before-parameter (p ∷ P) y S e = go (isParameter p) refl (before-parameter P y S e)
+  where
+    go : (b : Bool) → isParameter p ≡ b → sizeBefore (suc (length (those isParameter P))) (P ++ y ∷ S) ≡ size P → sizeBefore (suc (length (those isParameter (p ∷ P)))) (p ∷ P ++ y ∷ S) ≡ size (p ∷ P)
+    go true h ih =
+        ap (λ l. sizeBefore (suc (length l)) (p ∷ (P ++ y ∷ S))) (those-in isParameter p P h) ∙ before-param (suc (length (those isParameter P))) p (P ++ y ∷ S) h ∙ ih ∙ sym (size-param p P h)
+    go false h ih =
+        ap (λ l. sizeBefore (suc (length l)) (p ∷ (P ++ y ∷ S))) (those-out isParameter p P h) ∙ before-node (length (those isParameter P)) p (P ++ y ∷ S) h ∙ ap suc ih ∙ sym (size-node p P h)
+
+-- a gap is the difference of two of them
+pub gap-difference : (m : ℕ) (e : List ℕ) → sizeBefore (suc m) e ≡ sizeBefore m e + getD (gapSizes e) m 0
+gap-difference m e = go m (gapSizes e)
+  where
+    go : (m : ℕ) (gs : List ℕ) → sum (take (suc m) gs) ≡ sum (take m gs) + getD gs m 0
+    go zero [] = refl
+    go (suc m) [] = refl
+    go zero (g ∷ gs) = omega arith
+    go (suc m) (g ∷ gs) = omega (arith, go m gs)
+
+-- and behind the last parameter they are the whole size
+pub before-last : (m : ℕ) (e : List ℕ) → length (those isParameter e) < m → sizeBefore m e ≡ size e
+before-last m e h = ap sum (take-all m (gapSizes e) (omega (arith, length-gaps e))) ∙ sym (size-gaps e)
+
+module _ (ranks : List ℕ) (lower : List (List ℕ)) (env : Env ranks lower) where
+  -- the nodes before y_m of a body's expansion as a sum along the words before it
+  pub gap-sum : (xs : List ℕ) (y : ℕ) (ys : List ℕ) → isParameter y ≡ true → Fits (rankOf ranks) 0 (xs ++ y ∷ ys)
+      → sizeBefore (suc (length (those isParameter xs))) (expand ranks lower (xs ++ y ∷ ys)) ≡ beforePlace ranks lower xs
+  gap-sum xs y ys e f =
+      let z = parameter-rank ranks lower y e in
+      let h : height (rankOf ranks) 0 (y ∷ ys) ≡ suc (height (rankOf ranks) 0 ys) = omega arith in
+      let A = expand-around ranks lower env xs ys (rw h at (fits-split (rankOf ranks) xs (y ∷ ys) 0 f .0)) in
+      let p = parameter-tree ranks lower y e in
+      let s : expand ranks lower (xs ++ y ∷ ys) ≡ A .front ++ y ∷ A .back
+      = ap (expand ranks lower) (sym (append-snoc xs y ys))
+      ∙ expand-place ranks lower xs (y ∷ []) ys (p .0)
+      ∙ ap (λ (u : List ℕ). join (stackOf ranks lower xs (u ∷ stackOf ranks lower ys []))) (p .1)
+      ∙ A .around (y ∷ [])
+      ∙ append-snoc (A .front) y (A .back) in
+      ap (sizeBefore (suc (length (those isParameter xs)))) s
+      ∙ ap (λ (l : List ℕ). sizeBefore (suc (length l)) (A .front ++ y ∷ A .back)) (sym (A .front-parameters))
+      ∙ before-parameter (A .front) y (A .back) e
+      ∙ A .front-size
+
+  -- the same of a place with a complete tree in a body without parameters before it: where the tree's nodes begin
+  pub place-sum : (xs t ys : List ℕ) → Tree ranks t → Fits (rankOf ranks) 0 (xs ++ t ++ ys) → those isParameter xs ≡ []
+      → (P : List ℕ) × (S : List ℕ) × (expand ranks lower (xs ++ t ++ ys) ≡ P ++ expand ranks lower t ++ S) × (length P ≡ beforePlace ranks lower xs)
+  place-sum xs t ys tr f e =
+      let g = fits-split (rankOf ranks) xs (t ++ ys) 0 (rw append-assoc at f) in
+      let u = fits-split (rankOf ranks) t ys 0 (g .1) in
+      let h = tree-front ranks 0 t ys tr (u .1) .1 in
+      let A = expand-around ranks lower env xs ys (rw h at (g .0)) in (
+        A .front,
+        A .back,
+        expand-place ranks lower xs t ys tr ∙ A .around (expand ranks lower t),
+        omega (arith, length-size (A .front), A .front-size, ap length (A .front-parameters ∙ e)),
+      )
+
+-- Words that are complete trees of their own, before a place: all their nodes stand before it.
+module _ (ranks : List ℕ) (lower : List (List ℕ)) where
+  pub depth-trees : (d : ℕ) (xs : List ℕ) → Fits (rankOf ranks) 0 xs → depthOf (rankOf ranks) d xs ≡ height (rankOf ranks) 0 xs + d
+  depth-trees d [] f = sym (zero-add d)
+  depth-trees d (x ∷ xs) f =
+      let ih = depth-trees d xs (f .1) in
+      ap (λ (b : Bool). cond b 0 (suc (depthOf (rankOf ranks) d xs - rankOf ranks x))) (le-ltb (depthOf (rankOf ranks) d xs) (rankOf ranks x) (omega (arith, f .0)))
+      ∙ omega (arith, f .0)
+
+  pub before-trees : (d : ℕ) (xs : List ℕ) → Fits (rankOf ranks) 0 xs → beforeAt ranks lower d xs ≡ sumOf (ownSize lower) xs
+  before-trees d [] f = refl
+  before-trees d (x ∷ xs) f =
+      let e = depthOf (rankOf ranks) d xs in
+      ap (λ (b : Bool). cond b (ownBefore lower (suc e) x) (ownSize lower x) + beforeAt ranks lower d xs) (le-ltb e (rankOf ranks x) (omega (arith, f .0, depth-trees d xs (f .1))))
+      ∙ ap (λ (n : ℕ). ownSize lower x + n) (before-trees d xs (f .1))
+
+  pub depth-append : (d : ℕ) (xs ys : List ℕ) → depthOf (rankOf ranks) d (xs ++ ys) ≡ depthOf (rankOf ranks) (depthOf (rankOf ranks) d ys) xs
+  depth-append d [] ys = refl
+  depth-append d (x ∷ xs) ys = ap (λ (e : ℕ). cond (ltb e (rankOf ranks x)) 0 (suc (e - rankOf ranks x))) (depth-append d xs ys)
+
+  pub before-append : (d : ℕ) (xs ys : List ℕ) → beforeAt ranks lower d (xs ++ ys) ≡ beforeAt ranks lower (depthOf (rankOf ranks) d ys) xs + beforeAt ranks lower d ys
+  before-append d [] ys = sym (zero-add (beforeAt ranks lower d ys))
+  before-append d (x ∷ xs) ys =
+      let e = depthOf (rankOf ranks) (depthOf (rankOf ranks) d ys) xs in
+      let own : ℕ → ℕ = λ e. cond (ltb e (rankOf ranks x)) (ownBefore lower (suc e) x) (ownSize lower x) in
+      ap (λ (m : ℕ). own m + beforeAt ranks lower d (xs ++ ys)) (depth-append d xs ys)
+      ∙ ap (λ (n : ℕ). own e + n) (before-append d xs ys)
+      ∙ sym (add-assoc (own e) (beforeAt ranks lower (depthOf (rankOf ranks) d ys) xs) (beforeAt ranks lower d ys))
+
+  -- from a word to one of its children, over the children before it: what the walk adds
+  pub before-step : (xs : List ℕ) (x : ℕ) (ts : List ℕ) → Fits (rankOf ranks) 0 ts → height (rankOf ranks) 0 ts < rankOf ranks x
+      → beforePlace ranks lower (xs ++ x ∷ ts) ≡ beforePlace ranks lower xs + ownBefore lower (suc (height (rankOf ranks) 0 ts)) x + sumOf (ownSize lower) ts
+  before-step xs x ts f h =
+      let e : depthOf (rankOf ranks) 0 ts ≡ height (rankOf ranks) 0 ts = depth-trees 0 ts f ∙ add-zero (height (rankOf ranks) 0 ts) in
+      let over : ltb (depthOf (rankOf ranks) 0 ts) (rankOf ranks x) ≡ true = lt-ltb (depthOf (rankOf ranks) 0 ts) (rankOf ranks x) (omega arith) in
+      let depth : depthOf (rankOf ranks) 0 (x ∷ ts) ≡ 0 = ap (λ (b : Bool). cond b 0 (suc (depthOf (rankOf ranks) 0 ts - rankOf ranks x))) over in
+      let here : beforeAt ranks lower 0 (x ∷ ts) ≡ ownBefore lower (suc (height (rankOf ranks) 0 ts)) x + sumOf (ownSize lower) ts
+      = ap (λ (b : Bool). cond b (ownBefore lower (suc (depthOf (rankOf ranks) 0 ts)) x) (ownSize lower x) + beforeAt ranks lower 0 ts) over
+      ∙ ap (λ (m : ℕ). ownBefore lower (suc m) x + beforeAt ranks lower 0 ts) e
+      ∙ ap (λ (n : ℕ). ownBefore lower (suc (height (rankOf ranks) 0 ts)) x + n) (before-trees 0 ts f) in
+      before-append 0 xs (x ∷ ts)
+      ∙ ap (λ (d : ℕ). beforeAt ranks lower d xs + beforeAt ranks lower 0 (x ∷ ts)) depth
+      ∙ ap (λ (n : ℕ). beforePlace ranks lower xs + n) here
+      ∙ sym (add-assoc (beforePlace ranks lower xs) (ownBefore lower (suc (height (rankOf ranks) 0 ts)) x) (sumOf (ownSize lower) ts))

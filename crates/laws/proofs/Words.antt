@@ -1,0 +1,4 @@
+-- Tests, lists and the classes of words.
+pub mod Tests
+pub mod Lists
+pub mod Classes
