@@ -3,7 +3,7 @@
 -- returns), `Runs` and `Orders` (calls one by one), `Conforming` (all that is asked of an answer). `Witnesses` has files and updates that meet every premise here, `OrderMatters` why
 -- demand 3 has its own, `Work` the words that the work area has to hold.
 use Prim.Native.Nat.{ℕ, _≤_}
-use mathlib.Core.Path.{_≡_}
+use mathlib.Core.Path.{_≡_, refl}
 use mathlib.Core.List.{List, []}
 use lib.Dec.{T}
 use lib.ListN.{length, take}
@@ -14,7 +14,7 @@ use Rattle.model.specs.Answers.{checked, counted, labelAt, windowAt, update, pa
 use Rattle.model.specs.Program.{runOn, program, updateIn}
 use Rattle.laws.specs.Conditions.{Exactly, FilledFile, FilledWindow, readConditions, labelConditions, windowConditions, updateConditions, packConditions, programConditions, answerIn}
 use Rattle.laws.specs.Orders.{Suits, AllSuit, Reordered}
-use Rattle.laws.specs.Published.{BinaryTree, wordsOf, labelled, OneTree, published, allPublished}
+use Rattle.laws.specs.Published.{BinaryTree, emptyTree, element, wordsOf, labelled, insertedBefore, OneTree, published, allPublished}
 use Rattle.laws.specs.Returned.{Expands, UpdateReturns, PackReturns, fileOf}
 use Rattle.laws.specs.Runs.{Call, asked, AllAccepted, lastFile}
 use Rattle.laws.specs.Conforming.{CheckConforms, CountConforms, LabelConforms, WindowConforms, UpdateConforms, PackConforms, ProgramConforms, Settles}
@@ -59,10 +59,15 @@ demand-2 = update-returns
 pub demand-2-packing : (room work : ℕ) (tree : List ℕ) → pack room work tree .answer .number ≡ 0 → PackReturns tree (pack room work tree)
 demand-2-packing = pack-returns
 
--- "Source document 001 decides what an update means": the words of its update of a tree are the model's update of the tree's words, and such words are exactly one tree's.
+-- "Source document 001 decides what an update means": the words of its update of a tree are the model's update of the tree's words.
 pub published-update : (t : BinaryTree) → T (labelled t) → (u : Update) → Suits (wordsOf t) u → wordsOf (published u t) ≡ updated u (wordsOf t)
 published-update = published-words
 
+-- insert-before(t_i = r(t_i1, #)): "p 以下の部分木 t_p = λ_t(p)(t_1, t_2) を r(t_i1, λ_t(p)(t_1, t_2)) に置き換える" (t_p is replaced by r(t_i1, t_p))
+pub published-insert : (r : ℕ) (t₁ t : BinaryTree) → insertedBefore (element r t₁ emptyTree) t ≡ element r t₁ t
+published-insert r t₁ t = refl
+
+-- "A tree is written as its labels in preorder, one 16-bit word each." A complete tree of labels and ⊥ is the words of exactly one tree.
 pub words-of-one-tree : (words : List ℕ) → T (isPlainTree words) → OneTree words
 words-of-one-tree = one-tree
 

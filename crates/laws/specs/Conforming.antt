@@ -1,4 +1,4 @@
--- When an answer conforms, operation by operation: all that the demands and document 01 say of it, and nothing of how it is found.
+-- When an answer conforms, operation by operation: all that the demands and document 01 ask of it. The model's answer is not named.
 use Prim.Native.Nat.{ℕ, _+_}
 use mathlib.Core.Path.{_≡_}
 use mathlib.Core.Logic.{_≢_}

@@ -27,7 +27,7 @@ abbrev pub AllSuit : List ℕ → List Update → Type 0
 AllSuit ws [] = Unit {0}
 AllSuit ws (u ∷ us) = Suits ws u × AllSuit ws us
 
--- an update of the base, with its position moved by those that were made before it
+-- an update of the base, with its position "moved by what earlier updates at smaller positions added or took away"
 abbrev pub movedBy : List ℕ → List Update → Update → Update
 movedBy base made u = record { at = moved base made (u .at); edit = u .edit }
 

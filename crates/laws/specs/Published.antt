@@ -53,13 +53,13 @@ insertedBefore emptyTree t = t
 insertedBefore (element r t₁ t₂) t = element r t₁ (insertedBefore t₂ t)
 
 -- the tree that a list of words is: a label takes the two trees behind it
-abbrev pub over : ℕ → List BinaryTree → BinaryTree
-over w [] = emptyTree
-over w (t ∷ []) = emptyTree
-over w (t₁ ∷ t₂ ∷ ts) = element w t₁ t₂
+abbrev pub rooted : ℕ → List BinaryTree → BinaryTree
+rooted w [] = emptyTree
+rooted w (t ∷ []) = emptyTree
+rooted w (t₁ ∷ t₂ ∷ ts) = element w t₁ t₂
 
 abbrev pub treeIn : List ℕ → BinaryTree
-treeIn ws = getD (fold (rankOf []) over ws []) 0 emptyTree
+treeIn ws = getD (fold (rankOf []) rooted ws []) 0 emptyTree
 
 -- "A tree is written as its labels in preorder, one 16-bit word each." Words that are one tree's are no other's: `treeIn` finds it.
 pub record OneTree (ws : List ℕ) : Type 0 where

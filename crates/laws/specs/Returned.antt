@@ -20,16 +20,16 @@ abbrev pub fileOf : FileAnswer → List ℕ
 fileOf x = take (x .answer .length) (x .result)
 
 -- the counter's answer to a file that it takes, and the window expander's
-abbrev pub countIs : ℕ → CountAnswer
-countIs n = record { answer = accepted 0 0 0; nodes = n }
+abbrev pub answeredCount : ℕ → CountAnswer
+answeredCount n = record { answer = accepted 0 0 0; nodes = n }
 
-abbrev pub windowIs : List ℕ → WindowAnswer
-windowIs words = record { answer = accepted 0 0 0; window = words }
+abbrev pub answeredWindow : List ℕ → WindowAnswer
+answeredWindow words = record { answer = accepted 0 0 0; window = words }
 
 -- "expands to": the counter answers N, and the window of N words from 0 on is filled with the tree's words
 pub record Expands (file tree : List ℕ) : Type 0 where
-  pub count : counted file ≡ countIs (length tree)
-  pub window : windowAt file 0 (length tree) ≡ windowIs tree
+  pub count : counted file ≡ answeredCount (length tree)
+  pub window : windowAt file 0 (length tree) ≡ answeredWindow tree
 
 -- "The rule numbers opened fall strictly, so each is opened at most once": numbers that fall, the first of them below b
 abbrev pub Falls : ℕ → List ℕ → Type 0

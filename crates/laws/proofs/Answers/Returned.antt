@@ -24,7 +24,7 @@ use Rattle.laws.specs.Orders.{Suits, SuitsAs}
 use Rattle.laws.specs.Conditions.{NoneHolds, at, readConditions, updateConditions, packConditions, fileRules}
 use Rattle.laws.specs.Published.{BinaryTree, wordsOf, treeIn, OneTree, published}
 use Rattle.laws.specs.Steps.{Repacks}
-use Rattle.laws.specs.Returned.{fileOf, windowIs, Expands, UpdateReturns, PackReturns}
+use Rattle.laws.specs.Returned.{fileOf, answeredWindow, Expands, UpdateReturns, PackReturns}
 use Rattle.laws.proofs.Words.Classes.{explicit-legal, explicit-closed}
 use Rattle.laws.proofs.Trees.Grammar.{RuleOf, of-rules, formed-parts, formed-env, expansion-tree, Taken, tree-plain}
 use Rattle.laws.proofs.Opening.Walk.{OpenedFrom, opened-from, open-keeps-tree, opened-falls, opened-word}
@@ -123,7 +123,7 @@ file-expands file rules reads tree e =
     subst (Expands file) e
     (record {
       count = ap countedAs reads;
-      window = ap (windowAs 0 n) reads ∙ rw (le-ltb n (0 + n) (omega arith), windowAs) (ap windowIs (take-all n (treeOf rules) (omega arith)));
+      window = ap (windowAs 0 n) reads ∙ rw (le-ltb n (0 + n) (omega arith), windowAs) (ap answeredWindow (take-all n (treeOf rules) (omega arith)));
     })
   where
     n : ℕ

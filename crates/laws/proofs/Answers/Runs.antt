@@ -14,7 +14,7 @@ use Rattle.model.specs.File.{read}
 use Rattle.model.specs.Edits.{Update, updated, allAtOnce, apart}
 use Rattle.model.specs.Answers.{CountAnswer, WindowAnswer, countedAs, windowAs}
 use Rattle.laws.specs.Orders.{Suits, movedBy, inOrder, SuitInOrder, Reordered, Plain}
-use Rattle.laws.specs.Returned.{fileOf, countIs, windowIs, Expands}
+use Rattle.laws.specs.Returned.{fileOf, answeredCount, answeredWindow, Expands}
 use Rattle.laws.specs.Runs.{Call, asked, answerTo, AllAccepted, lastFile}
 use Rattle.laws.proofs.Answers.Refusals.{numberOf-positive}
 use Rattle.laws.proofs.File.Reading.{read-taken}
@@ -29,12 +29,12 @@ same-rules x rs ss p q = cc
 pub expands-read : (file tree : List ℕ) → Expands file tree → (rules : List Rule) × (read file ≡ taken rules) × (treeOf rules ≡ tree)
 expands-read file tree x = go (read file) refl (x .count) (x .window)
   where
-    go : (r : Result (List Rule)) → read file ≡ r → countedAs r ≡ countIs (length tree) → windowAs 0 (length tree) r ≡ windowIs tree
+    go : (r : Result (List Rule)) → read file ≡ r → countedAs r ≡ answeredCount (length tree) → windowAs 0 (length tree) r ≡ answeredWindow tree
         → (rules : List Rule) × (read file ≡ taken rules) × (treeOf rules ≡ tree)
     go (refused y k) e c w = absurd (omega (arith, ap (λ (z : CountAnswer). z .answer .number) c, numberOf-positive y))
     go (taken rules) e c w =
         let n : nodes rules ≡ length tree = ap (λ (z : CountAnswer). z .nodes) c in
-        let whole : windowAs 0 (length tree) (taken rules) ≡ windowIs (take (length tree) (treeOf rules)) = rw (le-ltb (nodes rules) (0 + length tree) (omega arith), windowAs) refl in
+        let whole : windowAs 0 (length tree) (taken rules) ≡ answeredWindow (take (length tree) (treeOf rules)) = rw (le-ltb (nodes rules) (0 + length tree) (omega arith), windowAs) refl in
         (rules, e, sym (take-all (length tree) (treeOf rules) (omega arith)) ∙ ap (λ (z : WindowAnswer). z .window) (sym whole ∙ w))
 
 -- what a run of accepted calls comes to

@@ -15,7 +15,7 @@ use Rattle.model.specs.Trees.{all, join, fold, push, isTree, isPlainTree}
 use Rattle.model.specs.Edits.{Edit, rename, insert, delete, Update, updated}
 use Rattle.laws.specs.Formed.{height, Fits, Tree}
 use Rattle.laws.specs.Orders.{Plain, Suits, SuitsAs}
-use Rattle.laws.specs.Published.{BinaryTree, emptyTree, element, wordsOf, labelled, replacedAt, relabelled, deleted, insertedBefore, over, treeIn, OneTree, publishedAs, published}
+use Rattle.laws.specs.Published.{BinaryTree, emptyTree, element, wordsOf, labelled, replacedAt, relabelled, deleted, insertedBefore, rooted, treeIn, OneTree, publishedAs, published}
 use Rattle.laws.proofs.Trees.Folds.{length-fold, fold-append, tree-over, tree-isTree, isTree-tree}
 use Rattle.laws.proofs.Words.Classes.{label-rank, label-explicit, element-label}
 use Rattle.laws.proofs.Words.Lists.{all-cons, all-append}
@@ -38,16 +38,16 @@ labels l t₁ t₂ t =
 
 -- Exactly one tree: the trees that a list of words is.
 abbrev treesIn : List ℕ → List BinaryTree
-treesIn ws = fold (rankOf []) over ws []
+treesIn ws = fold (rankOf []) rooted ws []
 
 -- a tree's words are read as the tree, before those that stand behind
 trees-of : (t : BinaryTree) → T (labelled t) → (ws : List ℕ) → treesIn (wordsOf t ++ ws) ≡ t ∷ treesIn ws
-trees-of emptyTree h ws = ap (λ (k : ℕ). over 0 (take k (treesIn ws)) ∷ drop k (treesIn ws)) empty-rank
+trees-of emptyTree h ws = ap (λ (k : ℕ). rooted 0 (take k (treesIn ws)) ∷ drop k (treesIn ws)) empty-rank
 trees-of (element l t₁ t₂) h ws =
     let (here, first, second) = labels l t₁ t₂ h in
     ap (λ (vs : List ℕ). treesIn (l ∷ vs)) (append-assoc (wordsOf t₁) (wordsOf t₂) ws)
-    ∙ ap (push (rankOf []) over l) (trees-of t₁ first (wordsOf t₂ ++ ws) ∙ ap (λ (ts : List BinaryTree). t₁ ∷ ts) (trees-of t₂ second ws))
-    ∙ ap (λ (k : ℕ). over l (take k (t₁ ∷ t₂ ∷ treesIn ws)) ∷ drop k (t₁ ∷ t₂ ∷ treesIn ws)) (label-rank [] l here)
+    ∙ ap (push (rankOf []) rooted l) (trees-of t₁ first (wordsOf t₂ ++ ws) ∙ ap (λ (ts : List BinaryTree). t₁ ∷ ts) (trees-of t₂ second ws))
+    ∙ ap (λ (k : ℕ). rooted l (take k (t₁ ∷ t₂ ∷ treesIn ws)) ∷ drop k (t₁ ∷ t₂ ∷ treesIn ws)) (label-rank [] l here)
 
 pub tree-words : (t : BinaryTree) → T (labelled t) → treeIn (wordsOf t) ≡ t
 tree-words t h = ap treeIn (sym (append-nil (wordsOf t))) ∙ ap (λ (ts : List BinaryTree). getD ts 0 emptyTree) (trees-of t h [])
@@ -65,20 +65,20 @@ read-words : (ws : List ℕ) → T (all isTreeWord ws) → Fits (rankOf []) 0 ws
 read-words [] t f = record { words = refl; all-labelled = tt }
 read-words (w ∷ ws) t f =
     let (here, behind) = all-cons isTreeWord w ws t in
-    go (eqb w 0) refl here (treesIn ws) (read-words ws behind (f .1)) (rw (length-fold (rankOf []) over ws []) (f .0))
+    go (eqb w 0) refl here (treesIn ws) (read-words ws behind (f .1)) (rw (length-fold (rankOf []) rooted ws []) (f .0))
   where
-    go : (b : Bool) → eqb w 0 ≡ b → T (isTreeWord w) → (ts : List BinaryTree) → Read ws ts → rankOf [] w ≤ length ts → Read (w ∷ ws) (push (rankOf []) over w ts)
+    go : (b : Bool) → eqb w 0 ≡ b → T (isTreeWord w) → (ts : List BinaryTree) → Read ws ts → rankOf [] w ≤ length ts → Read (w ∷ ws) (push (rankOf []) rooted w ts)
     go true e here ts r many =
         let zero-here : w ≡ 0 = eqb-true w 0 e in
         let none : rankOf [] w ≡ 0 = ap (rankOf []) zero-here ∙ empty-rank in
-        subst (λ (k : ℕ). Read (w ∷ ws) (over w (take k ts) ∷ drop k ts)) (sym none)
+        subst (λ (k : ℕ). Read (w ∷ ws) (rooted w (take k ts) ∷ drop k ts)) (sym none)
         (record { words = ap₂ (λ (v : ℕ) (vs : List ℕ). v ∷ vs) (sym zero-here) (r .words); all-labelled = (tt, r .all-labelled) })
     go false e here ts r many =
         let is-label : T (isLabel w) = element-label w here (eqb-false w 0 e) in
         let two : rankOf [] w ≡ 2 = label-rank [] w is-label in
-        subst (λ (k : ℕ). Read (w ∷ ws) (over w (take k ts) ∷ drop k ts)) (sym two) (on is-label ts r (rw two at many))
+        subst (λ (k : ℕ). Read (w ∷ ws) (rooted w (take k ts) ∷ drop k ts)) (sym two) (on is-label ts r (rw two at many))
       where
-        on : T (isLabel w) → (ts : List BinaryTree) → Read ws ts → 2 ≤ length ts → Read (w ∷ ws) (over w (take 2 ts) ∷ drop 2 ts)
+        on : T (isLabel w) → (ts : List BinaryTree) → Read ws ts → 2 ≤ length ts → Read (w ∷ ws) (rooted w (take 2 ts) ∷ drop 2 ts)
         on l [] r h = absurd (omega arith)
         on l (a ∷ []) r h = absurd (omega arith)
         on l (a ∷ b ∷ ts) r h =
@@ -88,7 +88,7 @@ read-words (w ∷ ws) t f =
             }
 
 plain-read : (ws : List ℕ) → Plain ws → (wordsOf (treeIn ws) ≡ ws) × T (labelled (treeIn ws))
-plain-read ws p = go (treesIn ws) (read-words ws (p .words) (p .tree .0)) (length-fold (rankOf []) over ws [] ∙ p .tree .1)
+plain-read ws p = go (treesIn ws) (read-words ws (p .words) (p .tree .0)) (length-fold (rankOf []) rooted ws [] ∙ p .tree .1)
   where
     go : (ts : List BinaryTree) → Read ws ts → length ts ≡ 1 → (wordsOf (getD ts 0 emptyTree) ≡ ws) × T (labelled (getD ts 0 emptyTree))
     go [] r e = absurd (omega arith)
