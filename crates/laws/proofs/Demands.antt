@@ -5,11 +5,12 @@ use mathlib.Core.Path.{_≡_, _∙_}
 use mathlib.Core.List.{List, []}
 use lib.Dec.{T}
 use lib.ListN.{take}
+use Rattle.model.specs.Bounds.{largestFile, leastWork}
 use Rattle.model.specs.Trees.{Rule, treeOf}
 use Rattle.model.specs.Refusals.{taken}
-use Rattle.model.specs.File.{read, afterRecord, largestFile}
+use Rattle.model.specs.File.{read, afterRecord}
 use Rattle.model.specs.Edits.{Update, allAtOnce, apart}
-use Rattle.model.specs.Answers.{checked, counted, labelAt, windowAt, update, pack, leastWork}
+use Rattle.model.specs.Answers.{checked, counted, labelAt, windowAt, update, pack}
 use Rattle.model.specs.Program.{program, updateIn}
 use Rattle.laws.specs.Conditions.{Exactly, FilledFile, FilledWindow, readConditions, labelConditions, windowConditions, updateConditions, packConditions, programConditions, answerIn}
 use Rattle.laws.specs.Orders.{Reordered}

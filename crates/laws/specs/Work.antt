@@ -4,7 +4,8 @@ use mathlib.Core.Path.{_≡_}
 use mathlib.Core.List.{List, [], _∷_}
 use mathlib.Core.Option.{some}
 use lib.ListN.{length}
-use Rattle.model.specs.Trees.{Rule, mostRules}
+use Rattle.model.specs.Bounds.{mostRules}
+use Rattle.model.specs.Trees.{Rule}
 use Rattle.model.specs.Edits.{Update}
 use Rattle.model.specs.Opening.{openedAt}
 use Rattle.model.specs.Dropping.{dropped}
