@@ -11,7 +11,8 @@ use native.Mathlib.Decide.{decLt}
 use lib.Dec.{T}
 use lib.ListN.{length, take, getD, replicate}
 use lib.Seq.{take-all, sets}
-use Rattle.model.specs.Trees.{Rule, size, expansions, largestSize, lowestHuge}
+use Rattle.model.specs.Bounds.{largestSize}
+use Rattle.model.specs.Trees.{Rule, size, expansions, lowestHuge}
 use Rattle.laws.specs.Formed.{formed}
 use Rattle.laws.proofs.Trees.Grammar.{formed-parts, expansions-solve}
 use Rattle.laws.proofs.Sizes.Gaps.{lowest-none, lowest-some}

@@ -8,8 +8,9 @@ use native.Mathlib.Omega.{arith}
 use lib.Dec.{T}
 use lib.ListN.{length, take, drop, getD, set, length-append, length-set, take-append-drop}
 use lib.Seq.{take-suc, split-at, take-all, length-take-le}
+use Rattle.model.specs.Bounds.{largestSize}
 use Rattle.model.specs.Words.{isParameter, rankOf}
-use Rattle.model.specs.Trees.{Rule, those, gapSizes, size, expand, expansions, ranksOf, largestSize}
+use Rattle.model.specs.Trees.{Rule, those, gapSizes, size, expand, expansions, ranksOf}
 use Rattle.laws.specs.Formed.{formed, bodyAt, Fits}
 use Rattle.laws.specs.Sums.{sum, sizeBefore, beforePlace}
 use Rattle.laws.proofs.Trees.Fills.{those-in, those-out, those-append}

@@ -9,8 +9,9 @@ use native.Mathlib.Omega.{arith}
 use lib.Dec.{T, eqb}
 use lib.ListN.{length, length-append}
 use borrow.Author.Tests.{eq-eqb, le-leb}
+use Rattle.model.specs.Bounds.{mostRules}
 use Rattle.model.specs.Words.{within}
-use Rattle.model.specs.Trees.{Rule, ranksOf, mostRules}
+use Rattle.model.specs.Trees.{Rule, ranksOf}
 use Rattle.model.specs.Refusals.{Refusal, Result, taken, refused, firstOf}
 use Rattle.model.specs.File.{ruleIn, ruleRefusals, afterRecord, readRules, readWhole}
 use Rattle.laws.specs.Formed.{formed, formedOn, startRank}

@@ -8,10 +8,10 @@ use native.Mathlib.Omega.{arith}
 use lib.Dec.{leb, eqb}
 use lib.ListN.{length, drop}
 use borrow.Author.Tests.{lt-ltb, le-ltb, eqb-true, ltb-false, leb-true, not-false}
+use Rattle.model.specs.Bounds.{largestFile, mostRules}
 use Rattle.model.specs.Words.{within}
-use Rattle.model.specs.Trees.{mostRules}
 use Rattle.model.specs.Refusals.{Refusal, taken, refused, firstOf, LARGE}
-use Rattle.model.specs.File.{read, readRules, payloadLength, editionIn, ruleCount, afterRecord, headRefusals, largestFile}
+use Rattle.model.specs.File.{read, readRules, payloadLength, editionIn, ruleCount, afterRecord, headRefusals}
 use Rattle.laws.proofs.Answers.Conditions.{firstOf-none-iff}
 use Rattle.grammar.specs.Meaning.{headResult}
 use Rattle.grammar.proofs.Tests.{both-true}

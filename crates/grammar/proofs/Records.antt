@@ -10,12 +10,12 @@ use native.Mathlib.Omega.{arith}
 use lib.ListN.{length, take, drop, getD, length-drop}
 use lib.Seq.{drop-cons, drop-drop, getD-drop, getD-take, length-take-le, take-nil}
 use borrow.Author.Tests.{lt-ltb, le-ltb, le-leb, lt-leb, eq-eqb, ne-eqb, eqb-true, ltb-false, not-false}
+use Rattle.model.specs.Bounds.{mostRules}
 use Rattle.model.specs.Refusals.{Refusal, taken, refused, firstOf, SHORT, KIND, LENGTH, HEAD}
 use Rattle.model.specs.File.{numberIn, kindIn, payloadLength, payloadIn, recordRefusals, editionIn, ruleCount}
 use Rattle.laws.proofs.Answers.Conditions.{firstOf-none-iff}
 use Rattle.grammar.specs.Meaning.{wordIn, lengthIn, lengthAllowed, recordResult, headResult, unlessRefused}
 use Rattle.model.specs.Words.{within}
-use Rattle.model.specs.Trees.{mostRules}
 use Rattle.grammar.proofs.Refusing.{unless-taken, unless-refused, first-over, first-here}
 
 -- k bytes as a number

@@ -7,7 +7,8 @@ use mathlib.Core.Option.{none, some}
 use native.Mathlib.Omega.{arith}
 use lib.Dec.{T, ltb}
 use lib.ListN.{length, replicate}
-use Rattle.model.specs.Trees.{Rule, size, expansions, nodes, lowestHuge, largestSize}
+use Rattle.model.specs.Bounds.{largestSize}
+use Rattle.model.specs.Trees.{Rule, size, expansions, nodes, lowestHuge}
 use Rattle.laws.specs.Formed.{formed}
 use Rattle.laws.proofs.Trees.Grammar.{formed-parts, expansions-solve}
 use Rattle.laws.proofs.Sizes.Gaps.{none-huge}

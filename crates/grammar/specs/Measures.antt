@@ -7,8 +7,9 @@ use lib.Dec.{T, ltb}
 use lib.Seq.{sets}
 use mathlib.Core.Option.{none, some}
 use lib.ListN.{length, take, drop, getD, replicate}
+use Rattle.model.specs.Bounds.{largestSize}
 use Rattle.model.specs.Words.{classOf}
-use Rattle.model.specs.Trees.{Rule, gapSizes, size, largestSize, expansions, lowestHuge}
+use Rattle.model.specs.Trees.{Rule, gapSizes, size, expansions, lowestHuge}
 use Rattle.model.specs.Refusals.{Result, taken, refused}
 use Rattle.model.specs.File.{read, ruleCount}
 use Rattle.laws.specs.Formed.{formed}

@@ -7,10 +7,11 @@ use mathlib.Core.Path.{_≡_, refl}
 use mathlib.Core.List.{List, []}
 use lib.Dec.{T}
 use lib.ListN.{length, take}
+use Rattle.model.specs.Bounds.{largestFile, leastWork}
 use Rattle.model.specs.Trees.{isPlainTree}
-use Rattle.model.specs.File.{kindIn, payloadLength, afterRecord, largestFile}
+use Rattle.model.specs.File.{kindIn, payloadLength, afterRecord}
 use Rattle.model.specs.Edits.{Update, updated, allAtOnce, apart}
-use Rattle.model.specs.Answers.{checked, counted, labelAt, windowAt, update, pack, leastWork}
+use Rattle.model.specs.Answers.{checked, counted, labelAt, windowAt, update, pack}
 use Rattle.model.specs.Program.{runOn, program, updateIn}
 use Rattle.laws.specs.Conditions.{Exactly, FilledFile, FilledWindow, readConditions, labelConditions, windowConditions, updateConditions, packConditions, programConditions, answerIn}
 use Rattle.laws.specs.Orders.{Suits, AllSuit, Reordered}
@@ -20,7 +21,7 @@ use Rattle.laws.specs.Runs.{Call, asked, AllAccepted, lastFile}
 use Rattle.laws.specs.Conforming.{CheckConforms, CountConforms, LabelConforms, WindowConforms, UpdateConforms, PackConforms, ProgramConforms, Settles}
 use Rattle.laws.proofs.Answers.Refusals.{checked-exactly, counted-exactly, labelAt-exactly, windowAt-exactly, update-exactly, pack-exactly, windowAt-filled, update-filled, pack-filled}
 use Rattle.laws.proofs.Answers.Program.{program-exactly, enough, program-record, program-never-empty}
-use Rattle.laws.proofs.Edits.Published.{one-tree, published-words}
+use Rattle.laws.proofs.Edits.Published.{one-tree, words-plain-tree, published-words}
 use Rattle.laws.proofs.Edits.PublishedAtOnce.{at-once-words}
 use Rattle.laws.proofs.Answers.Returned.{update-returns, pack-returns}
 use Rattle.laws.proofs.Answers.Recorded.{program-recorded}
@@ -70,6 +71,9 @@ published-insert r t₁ t = refl
 -- "A tree is written as its labels in preorder, one 16-bit word each." A complete tree of labels and ⊥ is the words of exactly one tree.
 pub words-of-one-tree : (words : List ℕ) → T (isPlainTree words) → OneTree words
 words-of-one-tree = one-tree
+
+pub words-of-a-tree : (t : BinaryTree) → T (labelled t) → T (isPlainTree (wordsOf t))
+words-of-a-tree = words-plain-tree
 
 -- 3. "A list of updates addressed to one base tree (no two at one position, none at a node another removes), applied one by one in any order with positions moved, ends in one and
 -- the same tree: the base with all made at once. Only premise: each call is accepted." The positions are "moved by what earlier updates at smaller positions added or took away".

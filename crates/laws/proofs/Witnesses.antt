@@ -7,15 +7,16 @@ use mathlib.Core.Option.{some}
 use lib.Dec.{T}
 use native.Mathlib.Omega.{arith}
 use lib.ListN.{getD, replicate}
+use Rattle.model.specs.Bounds.{largestFile, leastWork, longestTree}
 use Rattle.model.specs.Words.{classOf, call}
 use Rattle.model.specs.Trees.{Rule, join, treeOf, startOf}
 use Rattle.model.specs.Refusals.{taken}
-use Rattle.model.specs.File.{read, write, afterRecord, largestFile}
+use Rattle.model.specs.File.{read, write, afterRecord}
 use Rattle.model.specs.Edits.{rename, insert, delete, Update, allAtOnce, apart}
 use Rattle.model.specs.Opening.{openedAt}
 use Rattle.model.specs.Dropping.{dropped}
 use Rattle.model.specs.Rounds.{choice, repacked}
-use Rattle.model.specs.Answers.{update, remade, packed, pack, fragmentAllowed, treeAllowed, longestTree, leastWork}
+use Rattle.model.specs.Answers.{update, remade, packed, pack, fragmentAllowed, treeAllowed}
 use Rattle.model.specs.Program.{program}
 use Rattle.laws.specs.Conditions.{answerIn}
 use Rattle.laws.specs.Formed.{formed}

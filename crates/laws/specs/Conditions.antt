@@ -9,11 +9,12 @@ use mathlib.Core.Logic.{_⊎_}
 use mathlib.Core.Option.{Option, none, some}
 use lib.Dec.{leb, ltb, eqb}
 use lib.ListN.{length, take, drop, replicate}
-use Rattle.model.specs.Trees.{Rule, ranksOf, expansions, treeOf, nodes, size, largestSize}
+use Rattle.model.specs.Bounds.{largestFile, largestSize, leastWork}
+use Rattle.model.specs.Trees.{Rule, ranksOf, expansions, treeOf, nodes, size}
 use Rattle.model.specs.Refusals.{Refusal, TRAIL, LARGE, HUGE, EMPTY, POSITION, WORK, REQUEST, numberOf}
-use Rattle.model.specs.File.{numberIn, payloadIn, headRefusals, ruleCount, ruleIn, ruleRefusals, afterRecord, largestFile, write}
+use Rattle.model.specs.File.{numberIn, payloadIn, headRefusals, ruleCount, ruleIn, ruleRefusals, afterRecord, write}
 use Rattle.model.specs.Edits.{Update}
-use Rattle.model.specs.Answers.{Answer, CountAnswer, LabelAnswer, WindowAnswer, FileAnswer, refusal, updateRefusals, fileRefusals, packRefusals, remade, packed, leastWork}
+use Rattle.model.specs.Answers.{Answer, CountAnswer, LabelAnswer, WindowAnswer, FileAnswer, refusal, updateRefusals, fileRefusals, packRefusals, remade, packed}
 use Rattle.model.specs.Program.{requestRefused, updateIn}
 
 -- what the first condition that holds gives

@@ -1,14 +1,15 @@
 -- When an answer conforms, operation by operation: all that the demands and document 01 ask of it. The model's answer is not named.
-use Prim.Native.Nat.{ℕ, _+_}
+use Prim.Native.Nat.{ℕ}
 use mathlib.Core.Path.{_≡_}
 use mathlib.Core.Logic.{_≢_}
 use mathlib.Core.List.{List, _++_}
 use lib.ListN.{take, drop, getD}
+use Rattle.model.specs.Bounds.{largestFile, leastWork}
 use Rattle.model.specs.Trees.{Rule, treeOf, nodes}
 use Rattle.model.specs.Refusals.{taken}
-use Rattle.model.specs.File.{read, afterRecord, largestFile}
+use Rattle.model.specs.File.{read, afterRecord}
 use Rattle.model.specs.Edits.{Update}
-use Rattle.model.specs.Answers.{Answer, CountAnswer, LabelAnswer, WindowAnswer, FileAnswer, leastWork}
+use Rattle.model.specs.Answers.{Answer, CountAnswer, LabelAnswer, WindowAnswer, FileAnswer}
 use Rattle.model.specs.Program.{updateIn, answerRecord}
 use Rattle.laws.specs.Conditions.{Exactly, FilledFile, FilledWindow, readConditions, labelConditions, windowConditions, updateConditions, packConditions, programConditions, answerIn}
 use Rattle.laws.specs.Returned.{UpdateReturns, PackReturns, fileOf}

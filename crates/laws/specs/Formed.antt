@@ -5,8 +5,9 @@ use mathlib.Core.Bool.{Bool, true, _&&_}
 use mathlib.Core.List.{List, [], _∷_, _++_}
 use lib.Dec.{leb, eqb}
 use lib.ListN.{length, getD}
+use Rattle.model.specs.Bounds.{mostRules}
 use Rattle.model.specs.Words.{rankOf, isParameter, within}
-use Rattle.model.specs.Trees.{Rule, all, those, isLegal, obeys, parameters, grow, fold, expand, ranksOf, mostRules}
+use Rattle.model.specs.Trees.{Rule, all, those, isLegal, obeys, parameters, grow, fold, expand, ranksOf}
 
 -- each rule obeys document 01 on the ranks of the rules below it
 abbrev pub formedOn : List ℕ → List Rule → Bool

@@ -5,8 +5,9 @@ use mathlib.Core.Logic.{_⊎_}
 use mathlib.Core.List.{List}
 use lib.Dec.{T}
 use lib.ListN.{length}
+use Rattle.model.specs.Bounds.{mostRules}
 use Rattle.model.specs.Words.{rankOf}
-use Rattle.model.specs.Trees.{Rule, ranksOf, mostRules}
+use Rattle.model.specs.Trees.{Rule, ranksOf}
 use Rattle.model.specs.Rounds.{Digram, isLabelOrCall, occurrences, eligible, Counted, better, oneRound}
 
 -- "A digram (a, i, b) is a word a with i-th child b; neither is ⊥ or a parameter."

@@ -5,10 +5,11 @@ use mathlib.Core.List.{List, [], _∷_, _++_}
 use mathlib.Core.Option.{Option, none, some}
 use lib.Dec.{leb, ltb, eqb}
 use lib.ListN.{length, take, drop, getD, replicate}
+use Rattle.model.specs.Bounds.{isHuge, largestFile, longestFragment, longestTree, leastWork, noWord, noByte}
 use Rattle.model.specs.Words.{isLabel}
-use Rattle.model.specs.Trees.{Rule, isPlainTree, ranksOf, treeOf, nodes, largestSize}
+use Rattle.model.specs.Trees.{Rule, isPlainTree, ranksOf, treeOf, nodes}
 use Rattle.model.specs.Refusals.{Refusal, POSITION, NODE, LABEL, TREE, NOTHING-LEFT, OUTGROWN, FULL, ROOM, WORK, numberOf, placeOf, Result, taken, refused, firstOf}
-use Rattle.model.specs.File.{read, write, largestFile}
+use Rattle.model.specs.File.{read, write}
 use Rattle.model.specs.Edits.{Edit, rename, insert, delete, Update, edited, updated}
 use Rattle.model.specs.Opening.{openedAt}
 use Rattle.model.specs.Dropping.{dropped}
@@ -56,10 +57,10 @@ pub record LabelAnswer : Type 0 where
 abbrev pub labelAs : ℕ → Result (List Rule) → LabelAnswer
 labelAs p (taken rules) =
     elim (leb (nodes rules) p) [
-      | true ↦ record { answer = refusal POSITION 0; word = 65535 }
+      | true ↦ record { answer = refusal POSITION 0; word = noWord }
       | false ↦ record { answer = accepted 0 0 0; word = getD (treeOf rules) p 0 }
     ]
-labelAs p (refused x k) = record { answer = refusal x k; word = 65535 }
+labelAs p (refused x k) = record { answer = refusal x k; word = noWord }
 
 abbrev pub labelAt : List ℕ → ℕ → LabelAnswer
 labelAt file p = labelAs p (read file)
@@ -72,10 +73,10 @@ pub record WindowAnswer : Type 0 where
 abbrev pub windowAs : ℕ → ℕ → Result (List Rule) → WindowAnswer
 windowAs p len (taken rules) =
     elim (ltb (nodes rules) (p + len)) [
-      | true ↦ record { answer = refusal POSITION 0; window = replicate len 65535 }
+      | true ↦ record { answer = refusal POSITION 0; window = replicate len noWord }
       | false ↦ record { answer = accepted 0 0 0; window = take len (drop p (treeOf rules)) }
     ]
-windowAs p len (refused x k) = record { answer = refusal x k; window = replicate len 65535 }
+windowAs p len (refused x k) = record { answer = refusal x k; window = replicate len noWord }
 
 abbrev pub windowAt : List ℕ → ℕ → ℕ → WindowAnswer
 windowAt file p len = windowAs p len (read file)
@@ -88,25 +89,15 @@ pub record FileAnswer : Type 0 where
 
 -- "A refused call fills the whole result buffer with FF; an accepted one fills what follows the file with FF. The work area is all 0 after every call."
 abbrev pub refusedFile : ℕ → ℕ → Refusal → ℕ → FileAnswer
-refusedFile room work x k = record { answer = refusal x k; result = replicate room 255; work = replicate work 0 }
+refusedFile room work x k = record { answer = refusal x k; result = replicate room noByte; work = replicate work 0 }
 
 abbrev pub acceptedFile : ℕ → ℕ → ℕ → ℕ → List ℕ → FileAnswer
 acceptedFile room work opened rounds file =
     record {
       answer = accepted opened rounds (length file);
-      result = file ++ replicate (room - length file) 255;
+      result = file ++ replicate (room - length file) noByte;
       work = replicate work 0;
     }
-
--- "The work area is lent, at least 32,768 16-bit words." "Fragments have at most 2,048 words, trees for packing at most 16,384."
-abbrev pub leastWork : ℕ
-leastWork = 32768
-
-abbrev pub longestFragment : ℕ
-longestFragment = 2048
-
-abbrev pub longestTree : ℕ
-longestTree = 16384
 
 -- "13: rename or delete at a ⊥. 14: new label 0 or over 32,767. 15: fragment malformed, ⊥ alone or too long."
 abbrev pub treeAllowed : ℕ → List ℕ → Bool
@@ -127,16 +118,18 @@ fragmentAllowed (rename l) = true
 fragmentAllowed (insert s) = treeAllowed longestFragment s
 fragmentAllowed delete = true
 
--- "12 to 17 as numbered, each where the update has it". Only a delete can leave ⊥ alone, and only an insert can outgrow.
+-- 16 and 17, of the new N. Only a delete can leave ⊥ alone, and only an insert can outgrow.
+abbrev pub leftRefusals : ℕ → List (Bool × Refusal)
+leftRefusals nodes = (eqb nodes 1, NOTHING-LEFT) ∷ (isHuge nodes, OUTGROWN) ∷ []
+
+-- "then 12 to 19 as numbered, each where the update has it": 12 to 17
 abbrev pub updateRefusals : List ℕ → Update → List (Bool × Refusal)
 updateRefusals tree u =
     (leb (length tree) (u .at), POSITION)
     ∷ (wantsElement (u .edit) && eqb (getD tree (u .at) 0) 0, NODE)
     ∷ (not (labelAllowed (u .edit)), LABEL)
     ∷ (not (fragmentAllowed (u .edit)), TREE)
-    ∷ (eqb (length (updated u tree)) 1, NOTHING-LEFT)
-    ∷ (ltb largestSize (length (updated u tree)), OUTGROWN)
-    ∷ []
+    ∷ leftRefusals (length (updated u tree))
 
 -- "18: the finished file would be over 16,384 bytes. 19: the result buffer is shorter than the finished file."
 abbrev pub fileRefusals : ℕ → List ℕ → List (Bool × Refusal)

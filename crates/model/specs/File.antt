@@ -5,8 +5,9 @@ use mathlib.Core.List.{List, [], _∷_, _++_}
 use mathlib.Core.Option.{none, some}
 use lib.Dec.{leb, ltb, eqb}
 use lib.ListN.{length, take, drop}
+use Rattle.model.specs.Bounds.{headBytes, edition, mostRules, leastRuleBytes, largestRank, largestFile}
 use Rattle.model.specs.Words.{within}
-use Rattle.model.specs.Trees.{Rule, all, isLegal, obeys, ranksOf, expansions, nodes, lowestHuge, mostRules}
+use Rattle.model.specs.Trees.{Rule, all, isLegal, obeys, ranksOf, expansions, nodes, lowestHuge}
 use Rattle.model.specs.Refusals.{Refusal, SHORT, KIND, LENGTH, HEAD, RANK, SYMBOL, BODY, TRAIL, LARGE, HUGE, EMPTY, Result, taken, refused, firstOf}
 
 -- "little-endian": a number as k bytes, and bytes as a number
@@ -62,8 +63,8 @@ ruleCount bytes = numberIn (take 2 (drop 2 (payloadIn bytes)))
 
 abbrev pub headRefusals : List ℕ → List (Bool × Refusal)
 headRefusals bytes =
-    recordRefusals 1 (λ l. eqb l 4) bytes
-    ++ ((not (eqb (editionIn bytes) 1 && within 1 mostRules (ruleCount bytes)), HEAD) ∷ [])
+    recordRefusals 1 (λ l. eqb l headBytes) bytes
+    ++ ((not (eqb (editionIn bytes) edition && within 1 mostRules (ruleCount bytes)), HEAD) ∷ [])
 
 -- "n rules, kind 2: rank (16 bits), then the body's words. The payload is even and at least 4 bytes."
 abbrev pub ruleIn : List ℕ → Rule
@@ -72,8 +73,8 @@ ruleIn bytes = record { rank = numberIn (take 2 (payloadIn bytes)); body = words
 -- "or 5, 6 over the whole body, 7": rule r on the ranks of the rules below it, `last` where it is the start
 abbrev pub ruleRefusals : List ℕ → Bool → List ℕ → List (Bool × Refusal)
 ruleRefusals ranks last bytes =
-    recordRefusals 2 (λ l. isEven l && leb 4 l) bytes
-    ++ ((ltb 4 (ruleIn bytes .rank) || last && not (eqb (ruleIn bytes .rank) 0), RANK)
+    recordRefusals 2 (λ l. isEven l && leb leastRuleBytes l) bytes
+    ++ ((ltb largestRank (ruleIn bytes .rank) || last && not (eqb (ruleIn bytes .rank) 0), RANK)
     ∷ (not (all (isLegal (length ranks)) (ruleIn bytes .body)), SYMBOL)
     ∷ (not (obeys ranks (ruleIn bytes .rank) (ruleIn bytes .body)), BODY)
     ∷ [])
@@ -96,10 +97,7 @@ readRules (suc due) rules bytes =
       | none ↦ readRules due (rules ++ ruleIn bytes ∷ []) (afterRecord bytes)
     ]
 
--- "A file is at most 16,384 bytes." "9; then record by record".
-abbrev pub largestFile : ℕ
-largestFile = 16384
-
+-- "A file is at most 16,384 bytes." Order: "9; then record by record".
 unfoldable pub read : List ℕ → Result (List Rule)
 read file =
     elim (ltb largestFile (length file)) [
@@ -119,4 +117,4 @@ ruleRecords [] = []
 ruleRecords (r ∷ rs) = recordOf 2 (bytesOf 2 (r .rank) ++ wordBytes (r .body)) ++ ruleRecords rs
 
 unfoldable pub write : List Rule → List ℕ
-write rules = recordOf 1 (bytesOf 2 1 ++ bytesOf 2 (length rules)) ++ ruleRecords rules
+write rules = recordOf 1 (bytesOf 2 edition ++ bytesOf 2 (length rules)) ++ ruleRecords rules

@@ -4,18 +4,19 @@ use mathlib.Core.Bool.{Bool, true, false, cond, not, _&&_, _||_}
 use mathlib.Core.List.{List, _++_}
 use lib.Dec.{ltb, eqb}
 use lib.ListN.{length, take, drop}
+use Rattle.model.specs.Bounds.{renameBytes, deleteBytes, leastInsertBytes, mostInsertBytes, mostRead, largestFile, leastWork}
 use Rattle.model.specs.Words.{within}
 use Rattle.model.specs.Refusals.{REQUEST}
-use Rattle.model.specs.File.{bytesOf, numberIn, wordsIn, payloadLength, kindIn, payloadIn, afterRecord, recordOf, isEven, largestFile}
+use Rattle.model.specs.File.{bytesOf, numberIn, wordsIn, payloadLength, kindIn, payloadIn, afterRecord, recordOf, isEven}
 use Rattle.model.specs.Edits.{Edit, rename, insert, delete, Update}
-use Rattle.model.specs.Answers.{Answer, FileAnswer, refusal, update, leastWork}
+use Rattle.model.specs.Answers.{Answer, FileAnswer, refusal, update}
 
 -- "Kind 16 rename: position (64 bits), label (16). Kind 17 delete: position. Kind 18 insert: position, fragment words, payload even and 8 to 4,104 bytes."
 abbrev pub requestAllowed : ℕ → ℕ → Bool
 requestAllowed kind length =
-    eqb kind 16 && eqb length 10
-    || eqb kind 17 && eqb length 8
-    || eqb kind 18 && isEven length && within 8 4104 length
+    eqb kind 16 && eqb length renameBytes
+    || eqb kind 17 && eqb length deleteBytes
+    || eqb kind 18 && isEven length && within leastInsertBytes mostInsertBytes length
 
 -- "21: the program's update record is cut, unknown or of wrong length"
 abbrev pub requestRefused : List ℕ → Bool
@@ -50,4 +51,4 @@ runOn bytes =
 
 -- "It reads at most 20,495 bytes, enough to decide every answer."
 unfoldable pub program : List ℕ → List ℕ
-program input = runOn (take 20495 input)
+program input = runOn (take mostRead input)

@@ -5,8 +5,9 @@ use mathlib.Core.List.{List, [], _∷_, _++_}
 use mathlib.Core.Option.{Option, none, some}
 use lib.Dec.{leb, ltb, eqb}
 use lib.ListN.{length, take, drop, getD, set, replicate}
+use Rattle.model.specs.Bounds.{largestRank, mostRules}
 use Rattle.model.specs.Words.{Class, classOf, byClass, whenCall, renumbered, callWord, rankOf}
-use Rattle.model.specs.Trees.{Rule, roots, parameters, ranksOf, mostRules}
+use Rattle.model.specs.Trees.{Rule, roots, parameters, ranksOf}
 
 -- "A digram (a, i, b) is a word a with i-th child b"
 pub record Digram : Type 0 where
@@ -84,7 +85,7 @@ occurrences ranks d (r ∷ rs) = uppers (parts ranks d [] (r .body)) + occurrenc
 
 -- "A digram is eligible if k is at most 4 and it occurs more than 6 + k times"
 abbrev pub eligible : List ℕ → Digram → ℕ → Bool
-eligible ranks d count = leb (digramRank ranks d) 4 && ltb (6 + digramRank ranks d) count
+eligible ranks d count = leb (digramRank ranks d) largestRank && ltb (6 + digramRank ranks d) count
 
 -- "ties go to the smaller a, then i, then b"
 abbrev pub smaller : Digram → Digram → Bool

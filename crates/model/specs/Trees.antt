@@ -1,10 +1,11 @@
 -- Document 01, "Trees and words": words as trees, rules, the tree of a grammar, and sizes.
-use Prim.Native.Nat.{ℕ, zero, suc, _-_, _^_}
+use Prim.Native.Nat.{ℕ, zero, suc, _-_}
 use mathlib.Core.Bool.{Bool, true, false, cond, not, _&&_}
 use mathlib.Core.List.{List, [], _∷_, _++_}
 use mathlib.Core.Option.{Option, none, some}
 use lib.Dec.{leb, ltb, eqb}
 use lib.ListN.{length, take, drop, getD}
+use Rattle.model.specs.Bounds.{isHuge}
 use Rattle.model.specs.Words.{Class, classOf, byClass, whenParameter, whenCall, rankOf, isParameter, isTreeWord, parameterWord}
 
 abbrev pub all : (ℕ → Bool) → List ℕ → Bool
@@ -142,14 +143,7 @@ abbrev pub gapSizes : List ℕ → List ℕ
 gapSizes [] = 0 ∷ []
 gapSizes (w ∷ ws) = cond (isParameter w) (0 ∷ gapSizes ws) (oneMore (gapSizes ws))
 
--- "A rule's size is at most 2^40"; "rule count n (1 to 256)"
-abbrev pub largestSize : ℕ
-largestSize = 2 ^ 40
-
-abbrev pub mostRules : ℕ
-mostRules = 256
-
--- the lowest rule whose size is over it, counted from r
+-- the lowest rule whose size is over 2^40, counted from r
 abbrev pub lowestHuge : ℕ → List (List ℕ) → Option ℕ
 lowestHuge r [] = none
-lowestHuge r (e ∷ es) = cond (ltb largestSize (size e)) (some r) (lowestHuge (suc r) es)
+lowestHuge r (e ∷ es) = cond (isHuge (size e)) (some r) (lowestHuge (suc r) es)

@@ -4,6 +4,7 @@ use mathlib.Core.Bool.{Bool, true, false, cond, _&&_}
 use mathlib.Core.List.{List}
 use lib.Dec.{leb, eqb}
 use lib.ListN.{getD}
+use Rattle.model.specs.Bounds.{largestLabel, largestRank, mostRules}
 
 -- The table's rows. A parameter is named by its number from 1, a call by the rule that it calls.
 pub data Class : Type 0 where
@@ -16,21 +17,21 @@ pub data Class : Type 0 where
 abbrev pub within : ℕ → ℕ → ℕ → Bool
 within low high w = leb low w && leb w high
 
--- "0: ⊥. 1 to 32,767: element label. 32,769 to 32,772: parameter y1 to y4. 49,152 + j, j 0 to 255: call of rule j. All other words are illegal."
+-- "32,769 to 32,772 (8001 to 8004 hex) | parameter y1 to y4", "49,152 + j (C000 hex + j), j 0 to 255 | call of rule j"
+abbrev pub parameterWord : ℕ → ℕ
+parameterWord i = 0x8000 + i
+
+abbrev pub callWord : ℕ → ℕ
+callWord j = 0xC000 + j
+
+-- "0 | ⊥", "1 to 32,767 | element label", the two rows above; "All other words are illegal."
 unfoldable pub classOf : ℕ → Class
 classOf w =
     cond (eqb w 0) empty
-    (cond (within 1 32767 w) label
-    (cond (within 32769 32772 w) (parameter (w - 32768))
-    (cond (within 49152 49407 w) (call (w - 49152))
+    (cond (within 1 largestLabel w) label
+    (cond (within (parameterWord 1) (parameterWord largestRank) w) (parameter (w - parameterWord 0))
+    (cond (within (callWord 0) (callWord (mostRules - 1)) w) (call (w - callWord 0))
     illegal)))
-
--- the words that stand for y_i and for a call of rule j
-abbrev pub parameterWord : ℕ → ℕ
-parameterWord i = 32768 + i
-
-abbrev pub callWord : ℕ → ℕ
-callWord j = 49152 + j
 
 -- a value for each row of the table
 pub record Rows (A : Type 0) : Type 0 where

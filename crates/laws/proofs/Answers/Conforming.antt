@@ -1,25 +1,24 @@
 -- What conforms is equal: the conditions say which refusal is given or that none is, a refusal says all the rest, and of an accepted answer the file, its counts and what fills the
 -- slices are said, the file by the grammar that the steps make.
-use Prim.Native.Nat.{ℕ, suc, _+_, _-_, _≤_, _<_}
+use Prim.Native.Nat.{ℕ, _+_, _-_}
 use native.Mathlib.Omega.{arith}
 use mathlib.Core.Path.{_≡_, refl, sym, ap, ap₂, subst, _∙_}
 use mathlib.Core.Logic.{_≢_, _⊎_, inl, inr}
 use mathlib.Core.List.{List, [], _∷_, _++_}
 use mathlib.Core.Option.{Option, none, some}
-use lib.Dec.{T, leb, ltb}
+use lib.Dec.{leb, ltb}
 use lib.ListN.{length, take, drop, getD, replicate, take-append-drop}
-use lib.Seq.{length-take-le, take-append-seam}
+use lib.Seq.{length-take-le}
+use Rattle.model.specs.Bounds.{largestFile, leastWork}
 use Rattle.model.specs.Trees.{Rule, treeOf, nodes}
 use Rattle.model.specs.Refusals.{Refusal, POSITION, numberOf, taken}
-use Rattle.model.specs.File.{read, write, afterRecord, largestFile}
+use Rattle.model.specs.File.{read, write, afterRecord}
 use Rattle.model.specs.Edits.{Update}
 use Rattle.model.specs.Opening.{openedAt}
-use Rattle.model.specs.Answers.{Answer, CountAnswer, LabelAnswer, WindowAnswer, FileAnswer, accepted, refusal, checked, counted, countedAs, labelAt, windowAt, refusedFile, acceptedFile, updateRefusals, remade, packed, update, pack, leastWork}
+use Rattle.model.specs.Answers.{Answer, FileAnswer, accepted, refusal, checked, counted, countedAs, labelAt, windowAt, refusedFile, acceptedFile, remade, packed, update, pack}
 use Rattle.model.specs.Program.{updateIn, answerRecord, program}
-use Rattle.laws.specs.Formed.{formed}
-use Rattle.laws.specs.Orders.{Suits}
 use Rattle.laws.specs.Conditions.{firstIn, NoneHolds, First, Condition, decide, fileRules, readConditions, labelConditions, windowConditions, updateConditions, packConditions, programConditions, refusedCount, refusedLabel, refusedWindow, answerIn, Exactly, FilledFile}
-use Rattle.laws.specs.Returned.{fileOf, UpdateReturns, PackReturns}
+use Rattle.laws.specs.Returned.{fileOf}
 use Rattle.laws.specs.Conforming.{Uncounted, CheckConforms, CountConforms, LabelConforms, WindowConforms, UpdateConforms, PackConforms, ProgramConforms, Settles}
 use Rattle.laws.proofs.Answers.Conditions.{firstIn-iff, firstIn-none-iff, none-not-first, noneHolds-split, decide-cases, decide-first, decide-none}
 use Rattle.laws.proofs.Answers.Refusals.{numberOf-positive, read-taken-iff, checked-is, counted-is, labelAt-is, windowAt-is, updatedFile, update-is, pack-is, checked-exactly, counted-exactly, labelAt-exactly, windowAt-exactly, update-exactly, pack-exactly, windowAt-filled, update-filled, pack-filled}

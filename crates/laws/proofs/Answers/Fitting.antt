@@ -10,12 +10,13 @@ use mathlib.Core.Option.{Option, some, Option·some-injective}
 use borrow.Author.Tests.{ltb-true, eqb-true}
 use lib.Dec.{ltb, eqb}
 use lib.ListN.{length, take}
+use Rattle.model.specs.Bounds.{largestSize, leastWork}
 use Rattle.model.specs.Words.{isTreeWord, isParameter}
-use Rattle.model.specs.Trees.{Rule, expansions, treeOf, nodes, largestSize}
+use Rattle.model.specs.Trees.{Rule, expansions, treeOf, nodes}
 use Rattle.model.specs.Refusals.{Refusal, EMPTY, NOTHING-LEFT, OUTGROWN, WORK, numberOf}
 use Rattle.model.specs.File.{ruleCount, ruleIn, afterRecord, write}
 use Rattle.model.specs.Edits.{Edit, rename, insert, delete, Update, updated, added, took, tookAs}
-use Rattle.model.specs.Answers.{updateRefusals, fileRefusals, remade, update, leastWork}
+use Rattle.model.specs.Answers.{updateRefusals, fileRefusals, remade, update}
 use Rattle.laws.specs.Orders.{Suits}
 use Rattle.laws.specs.Conditions.{firstIn, NoneHolds, First, Condition, at, hugeConditions, rulesConditions, fileRules, readConditions}
 use Rattle.laws.proofs.Answers.Conditions.{firstIn-iff}

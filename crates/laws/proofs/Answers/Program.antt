@@ -10,12 +10,13 @@ use lib.ListN.{length, take, drop, replicate, length-append, length-drop, take-a
 use lib.Seq.{take-append-seam, take-append-le, drop-append-le, take-all, length-take-le}
 use borrow.Author.Tests.{le-ltb, lt-ltb, leb-true, leb-false}
 use mir.Facts.{and-yes, or-yes}
+use Rattle.model.specs.Bounds.{largestFile, leastWork, mostRules}
 use Rattle.model.specs.Words.{within}
-use Rattle.model.specs.Trees.{Rule, ranksOf, expansions, treeOf, nodes, mostRules}
+use Rattle.model.specs.Trees.{Rule, ranksOf, expansions, treeOf, nodes}
 use Rattle.model.specs.Refusals.{Refusal, LARGE, EMPTY, REQUEST, WORK, numberOf, placeOf}
-use Rattle.model.specs.File.{isEven, payloadLength, kindIn, numberIn, editionIn, ruleCount, ruleIn, afterRecord, headRefusals, ruleRefusals, largestFile, write}
+use Rattle.model.specs.File.{isEven, payloadLength, kindIn, numberIn, editionIn, ruleCount, ruleIn, afterRecord, headRefusals, ruleRefusals, write}
 use Rattle.model.specs.Edits.{Update}
-use Rattle.model.specs.Answers.{Answer, FileAnswer, refusal, refusedFile, updateRefusals, fileRefusals, remade, update, leastWork}
+use Rattle.model.specs.Answers.{Answer, FileAnswer, refusal, refusedFile, updateRefusals, fileRefusals, remade, update}
 use Rattle.model.specs.Program.{requestAllowed, requestRefused, updateIn, answerRecord, output, runOn, program}
 use Rattle.laws.specs.Conditions.{NoneHolds, First, Condition, at, decide, hugeConditions, rulesConditions, fileRules, readConditions, updateConditions, programConditions, answerIn, Exactly}
 use Rattle.laws.proofs.Answers.Conditions.{decide-cons, decide-map, decide-cases, decide-first}

@@ -6,12 +6,13 @@ use mathlib.Core.List.{List, _++_}
 use lib.Dec.{T}
 use lib.ListN.{length, take, replicate}
 use lib.Seq.{take-append-seam}
-use Rattle.model.specs.Trees.{Rule, treeOf, mostRules}
-use Rattle.model.specs.File.{afterRecord, largestFile, write}
+use Rattle.model.specs.Bounds.{largestFile, leastWork, mostRules}
+use Rattle.model.specs.Trees.{Rule, treeOf}
+use Rattle.model.specs.File.{afterRecord, write}
 use Rattle.model.specs.Edits.{Update}
 use Rattle.model.specs.Opening.{openedAt}
 use Rattle.model.specs.Dropping.{dropped}
-use Rattle.model.specs.Answers.{FileAnswer, accepted, refusal, refusedFile, editedStart, withStart, remade, update, leastWork}
+use Rattle.model.specs.Answers.{FileAnswer, accepted, refusal, refusedFile, editedStart, withStart, remade, update}
 use Rattle.model.specs.Program.{updateIn, answerRecord, program}
 use Rattle.laws.specs.Formed.{formed}
 use Rattle.laws.specs.Orders.{Suits}

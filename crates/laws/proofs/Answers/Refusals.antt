@@ -13,14 +13,15 @@ use lib.ListN.{length, take, drop, getD, replicate, length-append, length-take, 
 use lib.Seq.{drop-append-seam}
 use borrow.Author.Tests.{ltb-false}
 use mir.Facts.{and-yes}
+use Rattle.model.specs.Bounds.{largestFile, largestSize, leastWork, leastWork}
 use Rattle.model.specs.Words.{within}
-use Rattle.model.specs.Trees.{Rule, ranksOf, expansions, treeOf, nodes, size, lowestHuge, largestSize}
+use Rattle.model.specs.Trees.{Rule, ranksOf, expansions, treeOf, nodes, size, lowestHuge}
 use Rattle.model.specs.Refusals.{Refusal, SHORT, KIND, LENGTH, HEAD, RANK, SYMBOL, BODY, TRAIL, LARGE, HUGE, EMPTY, POSITION, NODE, LABEL, TREE, NOTHING-LEFT, OUTGROWN, FULL, ROOM, WORK, REQUEST, numberOf, everyRefusal, firstOf, Result, taken, refused}
-use Rattle.model.specs.File.{read, readRules, readWhole, headRefusals, ruleRefusals, ruleCount, ruleIn, afterRecord, largestFile, write}
+use Rattle.model.specs.File.{read, readRules, readWhole, headRefusals, ruleRefusals, ruleCount, ruleIn, afterRecord, write}
 use Rattle.model.specs.Edits.{Update}
 use Rattle.model.specs.Opening.{openedAt}
 use Rattle.model.specs.Rounds.{Repacked}
-use Rattle.model.specs.Answers.{Answer, FileAnswer, accepted, refusal, checked, checkedAs, counted, countedAs, labelAs, labelAt, windowAs, windowAt, refusedFile, acceptedFile, updateRefusals, fileRefusals, packRefusals, finished, finishedAs, remade, packed, update, updateAs, pack, leastWork}
+use Rattle.model.specs.Answers.{Answer, FileAnswer, accepted, refusal, checked, checkedAs, counted, countedAs, labelAs, labelAt, windowAs, windowAt, refusedFile, acceptedFile, updateRefusals, fileRefusals, packRefusals, finished, finishedAs, remade, packed, update, updateAs, pack}
 use Rattle.laws.specs.Conditions.{firstIn, NoneHolds, First, Condition, at, decide, hugeConditions, wholeConditions, rulesConditions, rulesFrom, fileRules, readConditions, labelConditions, windowConditions, updateConditions, packConditions, refusedCount, refusedLabel, refusedWindow, Exactly, FilledFile, FilledWindow}
 use Rattle.laws.proofs.Answers.Conditions.{noneHolds-split, decide-cons, decide-append, decide-snoc, decide-at, decide-map, decide-cases, decide-first, decide-none, first-unique, none-not-first}
 

@@ -11,14 +11,15 @@ use lib.Dec.{T, leb, ltb, eqb, ltb→lt, leb→le}
 use lib.ListN.{length, getD, replicate}
 use lib.Seq.{take-append-seam, take-all}
 use mir.Facts.{and-yes}
+use Rattle.model.specs.Bounds.{largestFile, largestSize, longestFragment, longestTree, longestFragment, longestTree}
 use Rattle.model.specs.Words.{isTreeWord, isParameter, isLabel}
-use Rattle.model.specs.Trees.{Rule, all, those, isPlainTree, isLegal, expand, expansions, ranksOf, startOf, treeOf, nodes, largestSize}
+use Rattle.model.specs.Trees.{Rule, all, those, isPlainTree, isLegal, expand, expansions, ranksOf, startOf, treeOf, nodes}
 use Rattle.model.specs.Refusals.{taken}
-use Rattle.model.specs.File.{read, write, largestFile}
+use Rattle.model.specs.File.{read, write}
 use Rattle.model.specs.Edits.{Edit, rename, insert, delete, Update, edited, updated, added, took}
 use Rattle.model.specs.Opening.{Opened, openedAt}
 use Rattle.model.specs.Dropping.{dropped}
-use Rattle.model.specs.Answers.{acceptedFile, countedAs, windowAs, refusedFile, wantsElement, labelAllowed, fragmentAllowed, treeAllowed, longestFragment, longestTree, updateRefusals, fileRefusals, packRefusals, withStart, editedStart, remade, update, packed, pack}
+use Rattle.model.specs.Answers.{acceptedFile, countedAs, windowAs, refusedFile, wantsElement, labelAllowed, fragmentAllowed, treeAllowed, updateRefusals, fileRefusals, packRefusals, withStart, editedStart, remade, update, packed, pack}
 use Rattle.laws.specs.Formed.{formed, Tree, bodyAt}
 use Rattle.laws.specs.Orders.{Suits, SuitsAs}
 use Rattle.laws.specs.Conditions.{NoneHolds, at, readConditions, updateConditions, packConditions, fileRules}

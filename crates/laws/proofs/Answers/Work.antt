@@ -10,13 +10,14 @@ use borrow.Author.Tests.{ltb-false}
 use mir.Facts.{and-yes}
 use lib.Dec.{T, leb, ltb, leb→le}
 use lib.ListN.{length}
+use Rattle.model.specs.Bounds.{largestFile, longestFragment, longestTree, longestFragment, longestTree}
 use Rattle.model.specs.Trees.{Rule, isPlainTree, startOf, treeOf}
 use Rattle.model.specs.Refusals.{taken}
-use Rattle.model.specs.File.{read, write, largestFile}
+use Rattle.model.specs.File.{read, write}
 use Rattle.model.specs.Edits.{Edit, rename, insert, delete, Update, added}
 use Rattle.model.specs.Opening.{openedAt}
 use Rattle.model.specs.Rounds.{choice, oneRound}
-use Rattle.model.specs.Answers.{withStart, editedStart, treeAllowed, fragmentAllowed, longestFragment, longestTree}
+use Rattle.model.specs.Answers.{withStart, editedStart, treeAllowed, fragmentAllowed}
 use Rattle.laws.specs.Formed.{formed}
 use Rattle.laws.specs.Orders.{Suits}
 use Rattle.laws.specs.Conditions.{readConditions}

@@ -1,6 +1,6 @@
 -- The published update on trees is the model's on words: a tree's words are those before a node, those of the subtree at it and those behind it, and an update puts other words for
 -- the subtree's. And a plain list of words is the words of exactly one tree, since each word's rank says how many of the trees behind it are its children.
-use Prim.Native.Nat.{ℕ, zero, suc, _+_, _-_, _≤_, _<_}
+use Prim.Native.Nat.{ℕ, zero, suc, _-_, _≤_, _<_}
 use native.Mathlib.Omega.{arith}
 use mathlib.Core.Path.{_≡_, refl, sym, ap, ap₂, subst, _∙_}
 use mathlib.Core.Bool.{Bool, true, false, cond, _&&_}
@@ -13,10 +13,10 @@ use lib.Seq.{take-append-seam, getD-append-seam}
 use Rattle.model.specs.Words.{classOf, rankOf, isLabel, isTreeWord}
 use Rattle.model.specs.Trees.{all, join, fold, push, isTree, isPlainTree}
 use Rattle.model.specs.Edits.{Edit, rename, insert, delete, Update, updated}
-use Rattle.laws.specs.Formed.{height, Fits, Tree}
+use Rattle.laws.specs.Formed.{Fits, Tree}
 use Rattle.laws.specs.Orders.{Plain, Suits, SuitsAs}
 use Rattle.laws.specs.Published.{BinaryTree, emptyTree, element, wordsOf, labelled, replacedAt, relabelled, deleted, insertedBefore, rooted, treeIn, OneTree, publishedAs, published}
-use Rattle.laws.proofs.Trees.Folds.{length-fold, fold-append, tree-over, tree-isTree, isTree-tree}
+use Rattle.laws.proofs.Trees.Folds.{length-fold, tree-over, tree-isTree, isTree-tree}
 use Rattle.laws.proofs.Words.Classes.{label-rank, label-explicit, element-label}
 use Rattle.laws.proofs.Words.Lists.{all-cons, all-append}
 use Rattle.laws.proofs.Edits.Edited.{rename-between, insert-between, delete-between}

@@ -1,27 +1,28 @@
 -- Several published updates, made on the tree node by node, are the model's pass over the words: what a delete removes ends where the node's first subtree ends, so before a
 -- subtree whose root is not removed nothing reaches into it.
-use Prim.Native.Nat.{ℕ, zero, suc, _+_, _-_, _≤_, _<_}
+use Prim.Native.Nat.{ℕ, suc, _+_, _-_, _≤_, _<_}
 use native.Mathlib.Omega.{arith}
 use native.Mathlib.Numerals.{add-one}
+use native.Mathlib.Nat.{add-zero}
 use mathlib.Core.Path.{_≡_, refl, sym, ap, ap₂, subst, _∙_}
 use mathlib.Core.Logic.{_⊎_, inl, inr}
-use mathlib.Core.Bool.{Bool, true, false, cond, _&&_, _||_}
+use mathlib.Core.Bool.{Bool, true, false, cond, _&&_, _||_, or-true, and-false}
 use mathlib.Core.List.{List, [], _∷_, _++_, append-assoc, append-nil}
 use mathlib.Core.Option.{Option, none, some, Option·some-injective, Option·none-ne-some}
 use lib.Dec.{T, leb, ltb, eqb}
-use borrow.Author.Tests.{le-leb, lt-leb, lt-ltb, le-ltb, eqb-true, eqb-false, ltb-true, ltb-false, ne-eqb}
+use borrow.Author.Tests.{eq-eqb, le-leb, lt-leb, lt-ltb, le-ltb, eqb-true, ltb-true, ltb-false}
 use mir.Facts.{and-yes}
 use lib.ListN.{length, take, drop, getD, length-append}
 use lib.Seq.{drop-drop, drop-at, drop-append-seam, getD-drop}
 use Rattle.model.specs.Words.{isTreeWord}
-use Rattle.model.specs.Trees.{all, isTree, isPlainTree, forest}
+use Rattle.model.specs.Trees.{all, isTree, forest}
 use Rattle.model.specs.Edits.{Edit, rename, insert, delete, Update, child, removesAs, removes, removed, pieceAs, piece, allFrom, allAtOnce, took, tookAs, clash, clashes, apart}
-use Rattle.laws.specs.Orders.{Plain, Suits, SuitsAs, AllSuit}
-use Rattle.laws.specs.Published.{BinaryTree, emptyTree, element, wordsOf, labelled, insertedBefore, treeIn, publishedAs, editAt, madeAs, allPublished}
+use Rattle.laws.specs.Orders.{SuitsAs, AllSuit}
+use Rattle.laws.specs.Published.{BinaryTree, emptyTree, element, wordsOf, labelled, treeIn, editAt, madeAs, allPublished}
 use Rattle.laws.proofs.Trees.Folds.{forest-tree, isTree-tree}
 use Rattle.laws.proofs.Edits.Apart.{apart-split}
 use Rattle.laws.proofs.Words.Tests.{or-split}
-use Rattle.laws.proofs.Edits.Published.{labels, words-plain, Around, around, front, inserted-words, front-taken}
+use Rattle.laws.proofs.Edits.Published.{labels, words-plain, Around, around, inserted-words, front-taken}
 
 -- what the pass puts for a word, by the update that stands there
 abbrev pieceOf : Option Edit → List ℕ → List ℕ
@@ -55,7 +56,7 @@ owned base (u ∷ us) t =
     (ap (λ (b : Bool). cond b (some (u .edit)) (editAt us (u .at))) (same (u .at)), owned-more base u us us c (owned base us rest))
   where
     same : (n : ℕ) → eqb n n ≡ true
-    same n = borrow.Author.Tests.eq-eqb n n refl
+    same n = eq-eqb n n refl
 
 edit-suits : (base : List ℕ) (us : List Update) → AllSuit base us → (p : ℕ) (e : Edit) → editAt us p ≡ some e → SuitsAs base p e
 edit-suits base [] s p e f = absurd (Option·none-ne-some e f)
@@ -77,12 +78,12 @@ removed-there base (u ∷ us) p q e h k = go (eqb (u .at) p) refl e (removed-the
         ap₂ (λ (n : ℕ) (e : Edit). removesAs base n q e) (eqb-true (u .at) p f) (Option·some-injective (u .edit) delete g)
         ∙ ap₂ (λ (a b : Bool). a && b) (le-leb p q h) (lt-ltb q (suc p + length (child [] 1 p base)) k) in
         ap (λ (b : Bool). b || removed base us q) here
-    go false f g rest = ap (λ (b : Bool). removes base u q || b) (rest g h k) ∙ mathlib.Core.Bool.or-true (removes base u q)
+    go false f g rest = ap (λ (b : Bool). removes base u q || b) (rest g h k) ∙ or-true (removes base u q)
 
 -- words that are all removed
 from-removed : (base : List ℕ) (us : List Update) (p : ℕ) (zs ys : List ℕ) → ((q : ℕ) → p ≤ q → q < p + length zs → removed base us q ≡ true)
     → allFrom base us p (zs ++ ys) ≡ allFrom base us (p + length zs) ys
-from-removed base us p [] ys h = ap (λ (n : ℕ). allFrom base us n ys) (sym (native.Mathlib.Nat.add-zero p))
+from-removed base us p [] ys h = ap (λ (n : ℕ). allFrom base us n ys) (sym (add-zero p))
 from-removed base us p (z ∷ zs) ys h =
     let here : removed base us p ≡ true = h p (omega arith) (omega arith) in
     let later : suc p + length zs ≡ p + suc (length zs) = omega arith in
@@ -126,7 +127,7 @@ module _ (base : List ℕ) where
           ∙ ap₂ (λ (a b : ℕ). a + b) (x .place) (length-append (wordsOf (x .here)) (x .behind))
 
       word : getD base q 0 ≡ getD (drop q base) 0 0
-      word = ap (λ (m : ℕ). getD base m 0) (sym (native.Mathlib.Nat.add-zero q)) ∙ sym (getD-drop q base 0 0)
+      word = ap (λ (m : ℕ). getD base m 0) (sym (add-zero q)) ∙ sym (getD-drop q base 0 0)
 
       go : (here : BinaryTree) → x .here ≡ here → q + suc (length (child [] 1 q base)) ≤ p + length (wordsOf t)
       go emptyTree f = absurd (n (word ∙ ap (λ (vs : List ℕ). getD vs 0 0) (there ∙ ap (λ (s : BinaryTree). wordsOf s ++ (x .behind ++ ys)) f)))
@@ -184,7 +185,7 @@ module _ (base : List ℕ) where
             where-is : (x : Bool) → ltb q p ≡ x → (y : Bool) → ltb p q ≡ y → (leb q p && ltb p (suc q + length (child [] 1 q base))) ≡ false
             where-is true x y i =
                 let taken : took base u ≡ suc (length (child [] 1 q base)) = ap (tookAs base q) g in
-                ap (λ (b : Bool). leb q p && b) (le-ltb p (suc q + length (child [] 1 q base)) (omega (arith, f .0 (ltb-true q p x), taken))) ∙ mathlib.Core.Bool.and-false (leb q p)
+                ap (λ (b : Bool). leb q p && b) (le-ltb p (suc q + length (child [] 1 q base)) (omega (arith, f .0 (ltb-true q p x), taken))) ∙ and-false (leb q p)
             where-is false x true i = ap (λ (b : Bool). b && ltb p (suc q + length (child [] 1 q base))) (lt-leb q p (ltb-true p q i))
             where-is false x false i = absurd (not-here u (o .0) g (omega (arith, ltb-false q p x, ltb-false p q i)))
 
@@ -233,7 +234,7 @@ module _ (base : List ℕ) (us : List Update) (s : AllSuit base us) (o : Owned u
   from-tree : (t : BinaryTree) → T (labelled t) → (p : ℕ) (ys : List ℕ) → drop p base ≡ wordsOf t ++ ys → Free base us p
       → allFrom base us p (wordsOf t ++ ys) ≡ wordsOf (allPublished us p t) ++ allFrom base us (p + length (wordsOf t)) ys
   from-tree emptyTree h p ys e f =
-      let z : getD base p 0 ≡ 0 = ap (λ (m : ℕ). getD base m 0) (sym (native.Mathlib.Nat.add-zero p)) ∙ sym (getD-drop p base 0 0) ∙ ap (λ (vs : List ℕ). getD vs 0 0) e in
+      let z : getD base p 0 ≡ 0 = ap (λ (m : ℕ). getD base m 0) (sym (add-zero p)) ∙ sym (getD-drop p base 0 0) ∙ ap (λ (vs : List ℕ). getD vs 0 0) e in
       let kept : editAt us p ≡ some delete → ⊥ = λ d. edit-suits base us s p delete d z in
       ap (λ (b : Bool). cond b [] (piece us p (0 ∷ [])) ++ allFrom base us (suc p) ys) (not-removed base us p kept us o f)
       ∙ ap₂ (λ (k : List ℕ) (n : ℕ). k ++ allFrom base us n ys) (piece-is us p (0 ∷ []) ∙ sym (made-empty base p z (editAt us p) (edit-suits base us s p))) (sym (add-one p))

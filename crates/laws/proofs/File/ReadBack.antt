@@ -10,8 +10,9 @@ use lib.ListN.{length, take, drop, take-append-drop, length-append, length-take,
 use lib.Seq.{take-all, drop-drop, length-take-le}
 use borrow.Author.Tests.{ltb-false, eqb-true, not-false}
 use mir.Facts.{and-yes}
+use Rattle.model.specs.Bounds.{mostRules}
 use Rattle.model.specs.Words.{within}
-use Rattle.model.specs.Trees.{Rule, ranksOf, mostRules}
+use Rattle.model.specs.Trees.{Rule, ranksOf}
 use Rattle.model.specs.Refusals.{taken}
 use Rattle.model.specs.File.{bytesOf, numberIn, wordsIn, wordBytes, payloadLength, kindIn, payloadIn, afterRecord, isEven, recordRefusals, editionIn, ruleCount, headRefusals, ruleIn, ruleRefusals, read, recordOf, ruleRecords, write}
 use Rattle.laws.specs.Conditions.{NoneHolds, at, rulesConditions, rulesFrom, fileRules, readConditions}

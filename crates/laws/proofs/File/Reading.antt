@@ -9,8 +9,9 @@ use borrow.Author.Tests.{ltb-false, eqb-false, eq-eqb}
 use mir.Facts.{and-yes, yes-and}
 use lib.Dec.{T, eqb}
 use lib.ListN.{length, getD, length-append}
+use Rattle.model.specs.Bounds.{largestSize, mostRules}
 use Rattle.model.specs.Words.{within}
-use Rattle.model.specs.Trees.{Rule, expansions, ranksOf, nodes, size, largestSize, mostRules}
+use Rattle.model.specs.Trees.{Rule, expansions, ranksOf, nodes, size}
 use Rattle.model.specs.Refusals.{EMPTY, HEAD, taken}
 use Rattle.model.specs.File.{editionIn, recordRefusals, ruleIn, ruleRefusals, read, ruleCount, afterRecord, headRefusals}
 use Rattle.laws.specs.Conditions.{NoneHolds, at, hugeConditions, rulesConditions, rulesFrom, fileRules, readConditions}

@@ -11,10 +11,11 @@ use lib.ListN.{length, take, drop, length-append}
 use lib.Seq.{drop-at, take-append-seam}
 use borrow.Author.Tests.{le-ltb, eq-eqb, ne-eqb, eqb-true}
 use mir.Facts.{and-yes}
+use Rattle.model.specs.Bounds.{largestFile, mostRules}
 use Rattle.model.specs.Words.{empty, label, parameter, call, illegal, classOf, within}
-use Rattle.model.specs.Trees.{Rule, all, isLegal, obeys, ranksOf, expansions, nodes, mostRules, isLegalAs}
+use Rattle.model.specs.Trees.{Rule, all, isLegal, obeys, ranksOf, expansions, nodes, isLegalAs}
 use Rattle.model.specs.Refusals.{Refusal, HEAD, RANK, SYMBOL, BODY, LARGE, HUGE, EMPTY, taken, refused, firstOf}
-use Rattle.model.specs.File.{bytesOf, numberIn, wordsIn, wordBytes, payloadLength, kindIn, payloadIn, afterRecord, isEven, recordRefusals, ruleCount, headRefusals, ruleIn, ruleRefusals, readWhole, readRules, largestFile, read, recordOf, ruleRecords, write}
+use Rattle.model.specs.File.{bytesOf, numberIn, wordsIn, wordBytes, payloadLength, kindIn, payloadIn, afterRecord, isEven, recordRefusals, ruleCount, headRefusals, ruleIn, ruleRefusals, readWhole, readRules, read, recordOf, ruleRecords, write}
 use Rattle.laws.specs.Conditions.{NoneHolds, at}
 use Rattle.laws.specs.Formed.{formedOn, startRank}
 use Rattle.laws.proofs.Answers.Conditions.{noneHolds-append, firstOf-none}

@@ -9,8 +9,9 @@ use mathlib.Core.Option.{some}
 use lib.Dec.{T, leb, ltb, leb→le, lt→ltb, T-not, not-T}
 use lib.ListN.{length, take, drop, getD}
 use mir.Facts.{and-yes, yes-and}
+use Rattle.model.specs.Bounds.{mostRules}
 use Rattle.model.specs.Words.{Class, empty, label, parameter, call, illegal, classOf, byClass, rankOf, callWord, renumbered, whenCall, parameterWord, isParameter, isParameterAs}
-use Rattle.model.specs.Trees.{Rule, all, those, same, ranksOf, isLegal, parameters, mostRules, isLegalAs}
+use Rattle.model.specs.Trees.{Rule, all, those, same, ranksOf, isLegal, parameters, isLegalAs}
 use Rattle.model.specs.Rounds.{Digram, Part, isLabelOrCall, digramRank, parts, uppers, occurrences, Counted, choice, newNumber, up, replaced, newRule, oneRound, isLabelOrCallAs}
 use Rattle.laws.specs.Formed.{formed, startRank, Tree, bodyAt}
 use Rattle.laws.proofs.Words.Classes.{class-of-call}

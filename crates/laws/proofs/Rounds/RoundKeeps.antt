@@ -6,7 +6,8 @@ use mathlib.Core.List.{List, [], _∷_, _++_}
 use native.Mathlib.Omega.{arith}
 use lib.Dec.{T}
 use lib.ListN.{length, take, drop, getD}
-use Rattle.model.specs.Trees.{Rule, isLegal, expand, expansions, ranksOf, treeOf, mostRules}
+use Rattle.model.specs.Bounds.{mostRules}
+use Rattle.model.specs.Trees.{Rule, isLegal, expand, expansions, ranksOf, treeOf}
 use Rattle.model.specs.Rounds.{Digram, newNumber, newRule, oneRound, repacked, up}
 use Rattle.laws.specs.Formed.{formed, Solves, bodyAt}
 use Rattle.laws.proofs.Trees.Legal.{legal-call, expand-agree}

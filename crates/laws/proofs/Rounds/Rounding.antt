@@ -8,7 +8,8 @@ use mathlib.Core.Option.{Option, none, some}
 use lib.Dec.{T, leb, ltb, ltb→lt}
 use lib.ListN.{length}
 use mir.Facts.{and-yes}
-use Rattle.model.specs.Trees.{Rule, ranksOf, mostRules}
+use Rattle.model.specs.Bounds.{mostRules}
+use Rattle.model.specs.Trees.{Rule, ranksOf}
 use Rattle.model.specs.File.{write}
 use Rattle.model.specs.Rounds.{digramRank, occurrences, eligible, Counted, choice, oneRound, Repacked, roundsOf, repacked}
 use Rattle.laws.specs.Formed.{formed}

@@ -1,13 +1,14 @@
 -- The rounds as a relation are the rounds as a function: the choice is a digram that no other beats, there is only one, and a chain that ends where the rounds end is theirs.
-use Prim.Native.Nat.{ℕ, zero, suc, _+_, _-_, _≤_, _<_}
+use Prim.Native.Nat.{ℕ, zero, suc, _+_, _-_, _≤_}
 use native.Mathlib.Omega.{arith}
-use mathlib.Core.Path.{_≡_, refl, sym, ap, subst, _∙_}
-use mathlib.Core.Logic.{_⊎_, inl, inr}
+use mathlib.Core.Path.{_≡_, refl, ap, subst}
+use mathlib.Core.Logic.{inl, inr}
 use mathlib.Core.List.{List, List·Memᴰ}
 use mathlib.Core.Option.{Option, none, some}
 use lib.Dec.{T}
 use lib.ListN.{length}
-use Rattle.model.specs.Trees.{Rule, ranksOf, mostRules}
+use Rattle.model.specs.Bounds.{mostRules}
+use Rattle.model.specs.Trees.{Rule, ranksOf}
 use Rattle.model.specs.Rounds.{Digram, digrams, occurrences, eligible, Counted, better, choice, oneRound, roundsOf, repacked}
 use Rattle.laws.specs.Steps.{countedIn, Eligible, Unbeaten, Passes, start, round, Ended, Repacks}
 use Rattle.laws.proofs.Rounds.Digrams.{digrams-stand}

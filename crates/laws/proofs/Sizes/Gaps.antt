@@ -9,8 +9,9 @@ use native.Mathlib.Omega.{arith}
 use borrow.Author.Tests.{le-ltb, lt-ltb, ltb-false}
 use lib.Dec.{T, ltb}
 use lib.ListN.{length, getD}
+use Rattle.model.specs.Bounds.{largestSize}
 use Rattle.model.specs.Words.{Class, empty, label, parameter, call, illegal, classOf, rankOf, isParameter}
-use Rattle.model.specs.Trees.{Rule, join, those, grow, expand, expansions, ranksOf, startOf, nodes, size, gapSizes, oneMore, largestSize, lowestHuge}
+use Rattle.model.specs.Trees.{Rule, join, those, grow, expand, expansions, ranksOf, startOf, nodes, size, gapSizes, oneMore, lowestHuge}
 use Rattle.laws.specs.Formed.{formed, Fits, Env, stackOf, bodyAt}
 use Rattle.laws.specs.Sums.{sumOf, sum, ownSize, ownAs}
 use Rattle.laws.proofs.Trees.Fills.{those-in, those-out, size-append, size-node, size-param, fill-size, total, stack-measure, by-call, grow-call, grow-other, rank-call, env-order, expand-parameters, length-parametersFrom}

@@ -11,8 +11,9 @@ use lib.Dec.{T, leb, ltb, eqb, leb→le, le→leb, eqb→eq, eqb-refl}
 use lib.ListN.{length, take, getD, length-append, length-take, List·getD-append, List·getD-eq-default}
 use lib.Seq.{getD-take, ext-getD, getD-append-seam, append-snoc, length-take-le}
 use mir.Facts.{and-yes, yes-and}
+use Rattle.model.specs.Bounds.{largestSize, mostRules}
 use Rattle.model.specs.Words.{isParameter, isTreeWord, within, parameterWord}
-use Rattle.model.specs.Trees.{Rule, all, those, same, parameters, isLegal, isTree, obeys, expand, expansionsOn, expansions, ranksOf, treeOf, startOf, nodes, size, largestSize, mostRules}
+use Rattle.model.specs.Trees.{Rule, all, those, same, parameters, isLegal, isTree, obeys, expand, expansionsOn, expansions, ranksOf, treeOf, startOf, nodes, size}
 use Rattle.model.specs.Refusals.{RANK, SYMBOL, BODY, firstOf}
 use Rattle.model.specs.File.{isEven, recordRefusals, ruleIn, ruleRefusals}
 use Rattle.laws.specs.Orders.{Plain}
