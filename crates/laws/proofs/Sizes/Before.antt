@@ -68,7 +68,25 @@ gap-difference m e = go m (gapSizes e)
 pub before-last : (m : ℕ) (e : List ℕ) → length (those isParameter e) < m → sizeBefore m e ≡ size e
 before-last m e h = ap sum (take-all m (gapSizes e) (omega (arith, length-gaps e))) ∙ sym (size-gaps e)
 
+-- the same of an expansion that is known only up to the parameter
+before-parted : (E P S : List ℕ) (y n : ℕ) (ps : List ℕ) → isParameter y ≡ true → E ≡ P ++ y ∷ S → those isParameter P ≡ ps → size P ≡ n → sizeBefore (suc (length ps)) E ≡ n
+before-parted E P S y n ps e parted parameters long =
+    ap (sizeBefore (suc (length ps))) parted
+    ∙ ap (λ (l : List ℕ). sizeBefore (suc (length l)) (P ++ y ∷ S)) (sym parameters)
+    ∙ before-parameter P y S e
+    ∙ long
+
 module _ (ranks : List ℕ) (lower : List (List ℕ)) (env : Env ranks lower) where
+  -- a parameter in a body stands in its expansion where a tree put into its place stands
+  expand-parameter : (xs : List ℕ) (y : ℕ) (ys P S : List ℕ) → isParameter y ≡ true
+      → join (stackOf ranks lower xs ((y ∷ []) ∷ stackOf ranks lower ys [])) ≡ P ++ (y ∷ []) ++ S → expand ranks lower (xs ++ y ∷ ys) ≡ P ++ y ∷ S
+  expand-parameter xs y ys P S e around =
+      ap (expand ranks lower) (sym (append-snoc xs y ys))
+      ∙ expand-place ranks lower xs (y ∷ []) ys (parameter-tree ranks lower y e .0)
+      ∙ ap (λ (u : List ℕ). join (stackOf ranks lower xs (u ∷ stackOf ranks lower ys []))) (parameter-tree ranks lower y e .1)
+      ∙ around
+      ∙ append-snoc P y S
+
   -- the nodes before y_m of a body's expansion as a sum along the words before it
   pub gap-sum : (xs : List ℕ) (y : ℕ) (ys : List ℕ) → isParameter y ≡ true → Fits (rankOf ranks) 0 (xs ++ y ∷ ys)
       → sizeBefore (suc (length (those isParameter xs))) (expand ranks lower (xs ++ y ∷ ys)) ≡ beforePlace ranks lower xs
@@ -76,17 +94,8 @@ module _ (ranks : List ℕ) (lower : List (List ℕ)) (env : Env ranks lower) wh
       let z = parameter-rank ranks lower y e in
       let h : height (rankOf ranks) 0 (y ∷ ys) ≡ suc (height (rankOf ranks) 0 ys) = omega arith in
       let A = expand-around ranks lower env xs ys (rw h at (fits-split (rankOf ranks) xs (y ∷ ys) 0 f .0)) in
-      let p = parameter-tree ranks lower y e in
-      let s : expand ranks lower (xs ++ y ∷ ys) ≡ A .front ++ y ∷ A .back
-      = ap (expand ranks lower) (sym (append-snoc xs y ys))
-      ∙ expand-place ranks lower xs (y ∷ []) ys (p .0)
-      ∙ ap (λ (u : List ℕ). join (stackOf ranks lower xs (u ∷ stackOf ranks lower ys []))) (p .1)
-      ∙ A .around (y ∷ [])
-      ∙ append-snoc (A .front) y (A .back) in
-      ap (sizeBefore (suc (length (those isParameter xs)))) s
-      ∙ ap (λ (l : List ℕ). sizeBefore (suc (length l)) (A .front ++ y ∷ A .back)) (sym (A .front-parameters))
-      ∙ before-parameter (A .front) y (A .back) e
-      ∙ A .front-size
+      before-parted (expand ranks lower (xs ++ y ∷ ys)) (A .front) (A .back) y (beforePlace ranks lower xs) (those isParameter xs) e
+      (expand-parameter xs y ys (A .front) (A .back) e (A .around (y ∷ []))) (A .front-parameters) (A .front-size)
 
   -- the same of a place with a complete tree in a body without parameters before it: where the tree's nodes begin
   pub place-sum : (xs t ys : List ℕ) → Tree ranks t → Fits (rankOf ranks) 0 (xs ++ t ++ ys) → those isParameter xs ≡ []

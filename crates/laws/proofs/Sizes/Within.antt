@@ -53,6 +53,27 @@ module _ (ranks : List ℕ) (lower : List (List ℕ)) (env : Env ranks lower) wh
       ap (λ (l : List (List ℕ)). grow (λ v. v) lower x l ∷ drop (rankOf ranks x) (before ++ more)) (take-append-le (rankOf ranks x) before more h)
       ∙ ap (λ (l : List (List ℕ)). grow (λ v. v) lower x (take (rankOf ranks x) before) ∷ l) (drop-append-le (rankOf ranks x) before more h)
 
+  -- a word over the tree with the place, where the word puts `f` before it and `b` after it
+  read-around : (x k : ℕ) (stack before : List (List ℕ)) (front t back : List ℕ) (after : List (List ℕ)) (f b : List ℕ)
+      → stack ≡ before ++ (front ++ t ++ back) ∷ after → rankOf ranks x ≡ length before + suc k
+      → grow (λ v. v) lower x (before ++ (front ++ t ++ back) ∷ take k after) ≡ f ++ (front ++ t ++ back) ++ b
+      → read x stack ≡ ((f ++ front) ++ t ++ (back ++ b)) ∷ drop k after
+  read-around x k stack before front t back after f b there at around =
+      ap (read x) there ∙ read-over x k before (front ++ t ++ back) after at ∙ ap (λ (u : List ℕ). u ∷ drop k after) (around ∙ nest f front t back b)
+
+  -- the parameters before the place and after it
+  front-parted : (f front : List ℕ) (before : List (List ℕ)) (ps : List ℕ) → those isParameter f ≡ those isParameter (join before)
+      → those isParameter (join before) ++ those isParameter front ≡ ps → those isParameter (f ++ front) ≡ ps
+  front-parted f front before ps e g = those-append isParameter f front ∙ ap (λ l. l ++ those isParameter front) e ∙ g
+
+  back-parted : (k : ℕ) (back b : List ℕ) (after : List (List ℕ)) (qs : List ℕ) → those isParameter b ≡ those isParameter (join (take k after))
+      → those isParameter back ++ those isParameter (join after) ≡ qs → those isParameter (back ++ b) ++ those isParameter (join (drop k after)) ≡ qs
+  back-parted k back b after qs e g =
+      ap (λ l. l ++ those isParameter (join (drop k after))) (those-append isParameter back b ∙ ap (λ l. those isParameter back ++ l) e)
+      ∙ append-assoc (those isParameter back) (those isParameter (join (take k after))) (those isParameter (join (drop k after)))
+      ∙ ap (λ l. those isParameter back ++ l) (sym (those-append isParameter (join (take k after)) (join (drop k after))) ∙ ap (those isParameter) (join-parts k after))
+      ∙ g
+
   -- a word that takes the tree with the place for a child
   within-over : (x : ℕ) (F : List ℕ → List (List ℕ)) (d n : ℕ) (ps qs : List ℕ) → Within F d n ps qs → d < rankOf ranks x → rankOf ranks x ≤ length (F [])
       → Within (λ t. read x (F t)) 0 (ownBefore lower (suc d) x + n) ps qs
@@ -64,23 +85,16 @@ module _ (ranks : List ℕ) (lower : List (List ℕ)) (env : Env ranks lower) wh
       let at : rankOf ranks x ≡ length before + suc k = omega (arith, W .depth) in
       let lk : length (take k after) ≡ k = length-take-le k after (omega (arith, W .depth)) in
       let g = grow-around ranks lower env x before (take k after) (omega (arith, W .depth)) in
-      let T : List ℕ → List ℕ = λ t. W .front ++ t ++ W .back in
-      let split : (t : List ℕ) → read x (F t) ≡ grow (λ v. v) lower x (before ++ T t ∷ take k after) ∷ drop k after
-      = λ t. ap (read x) (W .there t) ∙ read-over x k before (T t) after at in
       record {
         before = [];
         after = drop k after;
         front = g .front ++ W .front;
         back = W .back ++ g .back;
-        there = λ t. split t ∙ ap (λ (u : List ℕ). u ∷ drop k after) (g .around (T t) ∙ nest (g .front) (W .front) t (W .back) (g .back));
+        there = λ t. read-around x k (F t) before (W .front) t (W .back) after (g .front) (g .back) (W .there t) at (g .around (W .front ++ t ++ W .back));
         depth = refl;
         before-size = omega (arith, size-append (g .front) (W .front), g .front-size, W .before-size, ap (λ (m : ℕ). ownBefore lower (suc m) x) (W .depth));
-        before-parameters = those-append isParameter (g .front) (W .front) ∙ ap (λ l. l ++ those isParameter (W .front)) (g .front-parameters) ∙ W .before-parameters;
-        after-parameters =
-            ap (λ l. l ++ those isParameter (join (drop k after))) (those-append isParameter (W .back) (g .back) ∙ ap (λ l. those isParameter (W .back) ++ l) (g .back-parameters))
-            ∙ append-assoc (those isParameter (W .back)) (those isParameter (join (take k after))) (those isParameter (join (drop k after)))
-            ∙ ap (λ l. those isParameter (W .back) ++ l) (sym (those-append isParameter (join (take k after)) (join (drop k after))) ∙ ap (those isParameter) (join-parts k after))
-            ∙ W .after-parameters;
+        before-parameters = front-parted (g .front) (W .front) before ps (g .front-parameters) (W .before-parameters);
+        after-parameters = back-parted k (W .back) (g .back) after qs (g .back-parameters) (W .after-parameters);
       }
 
   -- a word that takes only trees before it
@@ -197,14 +211,12 @@ module _ (ranks : List ℕ) (lower : List (List ℕ)) (env : Env ranks lower) wh
       record {
         front = join (W .before) ++ W .front;
         back = W .back ++ join (W .after);
-        around = λ t.
-            ap join (W .there t)
-            ∙ join-append (W .before) ((W .front ++ t ++ W .back) ∷ W .after)
-            ∙ outer (join (W .before)) (W .front) t (W .back) (join (W .after));
+        around = λ t. outer (stackOf ranks lower xs (t ∷ rest)) (W .before) (W .front) t (W .back) (W .after) (W .there t);
         front-size = size-append (join (W .before)) (W .front) ∙ W .before-size ∙ add-zero (beforePlace ranks lower xs);
         front-parameters = those-append isParameter (join (W .before)) (W .front) ∙ W .before-parameters ∙ append-nil (those isParameter xs);
         back-parameters = those-append isParameter (W .back) (join (W .after)) ∙ W .after-parameters;
       }
     where
-      outer : (a b t c e : List ℕ) → a ++ (b ++ t ++ c ++ e) ≡ (a ++ b) ++ t ++ (c ++ e)
-      outer a b t c e = simp append-assoc
+      outer : (stack before : List (List ℕ)) (front t back : List ℕ) (after : List (List ℕ)) → stack ≡ before ++ (front ++ t ++ back) ∷ after
+          → join stack ≡ (join before ++ front) ++ t ++ (back ++ join after)
+      outer stack before front t back after there = ap join there ∙ join-append before ((front ++ t ++ back) ∷ after) ∙ simp append-assoc

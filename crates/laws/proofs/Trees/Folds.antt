@@ -129,6 +129,14 @@ pub fits-map : {X W : Type 0} (f : X → W) (rk : W → ℕ) (h : ℕ) (vs : Lis
 fits-map f rk h [] g = tt
 fits-map f rk h (v ∷ vs) g = (rw (height-map f rk h vs) at (g .0), fits-map f rk h vs (g .1))
 
+context-over : {W A : Type 0} (rk : W → ℕ) (make : W → List (List A) → List A) (x : W) → Linear (rk x) (make x)
+    → (F : List A → List (List A)) (before : List (List A)) (P S : List A) (after : List (List A)) → ((t : List A) → F t ≡ before ++ (P ++ t ++ S) ∷ after)
+    → rk x ≤ length before + suc (length after)
+    → (before′ : List (List A)) × (P′ : List A) × (S′ : List A) × (after′ : List (List A)) × ((t : List A) → push rk make x (F t) ≡ before′ ++ (P′ ++ t ++ S′) ∷ after′)
+context-over rk make x lin F before P S after e long =
+    let c = context-push (rk x) (make x) lin before P S after long in
+    (c .0, c .1, c .2, c .3, λ t. ap (push rk make x) (e t) ∙ c .4 t)
+
 -- One tree of the stack, wherever the words before it put it: what stands before and after it in the result does not depend on it.
 pub context : {W A : Type 0} (rk : W → ℕ) (make : W → List (List A) → List A) → ((w : W) → Linear (rk w) (make w))
     → (xs : List W) (rest : List (List A)) → Fits rk (suc (length rest)) xs
@@ -139,8 +147,7 @@ context {A = A} rk make lin (x ∷ xs) rest f =
     let (before, P, S, after, e) = context rk make lin xs rest (f .1) in
     let long : rk x ≤ length before + suc (length after) =
     omega (arith, f .0, length-fold rk make xs ([] ∷ rest), ap length (e []), length-append before ((P ++ [] ++ S) ∷ after)) in
-    let (before′, P′, S′, after′, e′) = context-push (rk x) (make x) (lin x) before P S after long in
-    (before′, P′, S′, after′, λ t. ap (push rk make x) (e t) ∙ e′ t)
+    context-over rk make x (lin x) (λ t. fold rk make xs (t ∷ rest)) before P S after e long
 
 length-roots : (ranks ws : List ℕ) → length (roots ranks ws) ≡ height (rankOf ranks) 0 ws
 length-roots ranks ws = length-fold (rankOf ranks) (λ w trees. w) ws []
