@@ -24,7 +24,7 @@ startRank [] = 1
 startRank (r ∷ []) = r .rank
 startRank (r ∷ s ∷ rs) = startRank (s ∷ rs)
 
--- "1 to 256 rules", "the last rule is the start rule, of rank 0", and each rule obeys
+-- "rule count n (1 to 256)", "The last rule is the start rule, of rank 0", and each rule obeys
 abbrev pub formed : List Rule → Bool
 formed rules = within 1 mostRules (length rules) && eqb (startRank rules) 0 && formedOn [] rules
 

@@ -1,4 +1,4 @@
--- "16: the update would leave ⊥ alone. 17: the new N would be over 2^40." Both are tried for every update, but only a delete meets 16 and only an insert 17: a rename keeps the
+-- 16: "the update would leave ⊥ alone". 17: "the new N would be over 2^40". Both are tried for every update, but only a delete meets 16 and only an insert 17: a rename keeps the
 -- tree's length, an insert makes it no shorter and a delete no longer, and a tree that is read is neither ⊥ alone nor over 2^40.
 use Prim.Native.Nat.{ℕ, zero, suc, _+_, _-_, _≤_, _<_}
 use native.Mathlib.Omega.{arith}
