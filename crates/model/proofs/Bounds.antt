@@ -17,7 +17,7 @@ use Rattle.model.specs.Rounds.{Digram, eligible, repacked}
 use Rattle.model.specs.Answers.{checked, labelAllowed, updateRefusals, leftRefusals, fileRefusals, packRefusals, update, pack}
 use Rattle.model.specs.Program.{requestAllowed, program}
 
--- A row: the number of the refusal, what is answered just inside of the bound and what just outside. 0 is "not refused so".
+-- A row: the number of the refusal, what is answered just inside of the bound and what just outside. 0 is: not refused so.
 data Row : Type 0 where
   bound : ℕ → ℕ → ℕ → Row
 

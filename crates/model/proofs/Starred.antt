@@ -1,6 +1,6 @@
 -- Document 01, "Reference trees": the starred lines as one table under one theorem, by computation. Below it, two tables that are no starred lines but
--- tell wrong definitions from the right ones. Answers are in the page's own numbers and with every lent slice's content, so that no table leans on
--- the definitions that it guards.
+-- tell wrong definitions from the right ones. Answers are in the page's own numbers and with every lent slice's content. G, its request and the program's output
+-- for G1 are in bytes, so `read` and `write` are held there; most other inputs and the files expected are made with `write`.
 use Prim.Native.Nat.{ℕ, zero, suc, _-_}
 use mathlib.Core.Path.{_≡_, refl}
 use mathlib.Core.Bool.{Bool, true, false}
@@ -82,7 +82,7 @@ G =
     ∷ 12 ∷ 0 ∷ 0 ∷ 0 ∷ 2 ∷ 0 ∷ 1 ∷ 0 ∷ 2 ∷ 0 ∷ 3 ∷ 0 ∷ 0 ∷ 0 ∷ 0 ∷ 0 ∷ 1 ∷ 128
     ∷ 12 ∷ 0 ∷ 0 ∷ 0 ∷ 2 ∷ 0 ∷ 0 ∷ 0 ∷ 1 ∷ 0 ∷ 0 ∷ 192 ∷ 0 ∷ 192 ∷ 0 ∷ 0 ∷ 0 ∷ 0 ∷ []
 
--- rule 0 of G; what G1, G2 and G4 leave; the file of E1
+-- rule 0 of G; what G1, G2, G4 and G8 leave; the file of E1
 fan : Rule
 fan = rule 1 (2 ∷ 3 ∷ 0 ∷ 0 ∷ 0x8001 ∷ [])
 
@@ -94,6 +94,9 @@ one-left = fan ∷ rule 0 (1 ∷ 0xC000 ∷ 0 ∷ 0 ∷ []) ∷ []
 
 one-more : List Rule
 one-more = fan ∷ rule 0 (1 ∷ 0xC000 ∷ 0xC000 ∷ 4 ∷ 0 ∷ 0 ∷ 0 ∷ []) ∷ []
+
+one-rule : List Rule
+one-rule = rule 0 (1 ∷ 4 ∷ 3 ∷ 0 ∷ 0 ∷ 0 ∷ 0 ∷ []) ∷ []
 
 empty : List ℕ
 empty = write (rule 0 (0 ∷ []) ∷ [])
@@ -111,23 +114,23 @@ output =
 
 reference : List Case
 reference =
-    -- G1 to G4, with the lengths that the page gives
+    -- G1 to G4, with the lengths that the page gives: an answer's length is its file's
     filing (on G (at 6 (rename 4))) (filed 1 one-renamed)
-    ∷ measuring (on G (at 6 (rename 4)) .answer .length) 52
+    ∷ measuring (length (write one-renamed)) 52
     ∷ writing (program (request ++ G)) output
     ∷ filing (on G (at 5 delete)) (filed 1 one-left)
-    ∷ measuring (on G (at 5 delete) .answer .length) 44
+    ∷ measuring (length (write one-left)) 44
     ∷ filing (on G (at 1 delete)) (filed 1 one-left)
     ∷ filing (on G (at 9 (insert (4 ∷ 0 ∷ 0 ∷ [])))) (filed 0 one-more)
-    ∷ measuring (on G (at 9 (insert (4 ∷ 0 ∷ 0 ∷ []))) .answer .length) 50
+    ∷ measuring (length (write one-more)) 50
     -- G5, G6, G7
     ∷ filing (on G (at 0 delete)) (refused 16)
     ∷ filing (on G (at 9 delete)) (refused 13)
     ∷ filing (on G (at 10 (rename 4))) (refused 13)
     ∷ filing (on G (at 11 (rename 4))) (refused 12)
     -- G8
-    ∷ filing (on (write one-left) (at 1 (rename 4))) (filed 1 (rule 0 (1 ∷ 4 ∷ 3 ∷ 0 ∷ 0 ∷ 0 ∷ 0 ∷ []) ∷ []))
-    ∷ measuring (on (write one-left) (at 1 (rename 4)) .answer .length) 32
+    ∷ filing (on (write one-left) (at 1 (rename 4))) (filed 1 one-rule)
+    ∷ measuring (length (write one-rule)) 32
     -- E1, E2
     ∷ checking (checked empty) (no 11 0)
     ∷ filing (on empty (at 0 (rename 4))) (refused 11)
@@ -136,7 +139,7 @@ reference =
     ∷ []
 
 starred : reference ≡ map settled reference
-unfolding reference settled rule at no yes refused-in filed-in on filed refused G fan one-renamed one-left one-more empty request output classOf read write openedAt dropped repacked remade update program
+unfolding reference settled rule at no yes refused-in filed-in on filed refused G fan one-renamed one-left one-more one-rule empty request output classOf read write openedAt dropped repacked remade update program
 starred = refl
 
 -- The second table, of all but packing and rounds: first what it asks with.
@@ -256,13 +259,17 @@ spread first m = leaf ∷ rule 1 (times m (2 ∷ 0xC000 ∷ []) ++ 0x8001 ∷ []
 over : ℕ → Rule
 over a = rule 1 (a ∷ 0xC000 ∷ 0x8001 ∷ [])
 
+-- what P20 leaves
+paired : List Rule
+paired = rule 3 (2 ∷ 0x8001 ∷ 2 ∷ 0x8002 ∷ 0x8003 ∷ []) ∷ rule 0 (times 10 (0xC000 ∷ 0 ∷ 0 ∷ []) ++ 0 ∷ []) ∷ []
+
 rounds : List Case
 rounds =
     -- P19 and P20; ⊥ alone; no tree
     filing (pack 100 32768 (siblings 19)) (filed-in 100 0 0 (rule 0 (siblings 19) ∷ []))
-    ∷ measuring (pack 100 32768 (siblings 19) .answer .length) 96
-    ∷ filing (pack 100 32768 (siblings 20)) (filed-in 100 0 1 (rule 3 (2 ∷ 0x8001 ∷ 2 ∷ 0x8002 ∷ 0x8003 ∷ []) ∷ rule 0 (times 10 (0xC000 ∷ 0 ∷ 0 ∷ []) ++ 0 ∷ []) ∷ []))
-    ∷ measuring (pack 100 32768 (siblings 20) .answer .length) 98
+    ∷ measuring (length (write (rule 0 (siblings 19) ∷ []))) 96
+    ∷ filing (pack 100 32768 (siblings 20)) (filed-in 100 0 1 paired)
+    ∷ measuring (length (write paired)) 98
     ∷ filing (pack 100 32768 (0 ∷ [])) (refused-in 100 32768 15)
     ∷ filing (pack 100 32768 (2 ∷ 0 ∷ [])) (refused-in 100 32768 15)
     -- k = 1: 6 + k and 7 + k occurrences, and the new rule comes below rule 1; the same spread over two bodies
@@ -279,5 +286,5 @@ rounds =
     ∷ []
 
 told : (further ≡ map settled further) × (rounds ≡ map settled rounds)
-unfolding further rounds settled times siblings nested leaf aside two-steps fragment grown three one-by-one written at-9 renamed chained spread over rule at no yes refused-in filed-in on filed refused G fan one-renamed one-left one-more request classOf read write openedAt dropped repacked remade update program packed pack
+unfolding further rounds settled times siblings nested leaf aside two-steps fragment grown three one-by-one written at-9 renamed chained spread over paired rule at no yes refused-in filed-in on filed refused G fan one-renamed one-left one-more request classOf read write openedAt dropped repacked remade update program packed pack
 told = (refl, refl)

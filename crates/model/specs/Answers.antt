@@ -49,7 +49,7 @@ countedAs (refused x k) = record { answer = refusal x k; nodes = 0 }
 abbrev pub counted : List ℕ → CountAnswer
 counted file = countedAs (read file)
 
--- "the label query gives the word at p (0 at a ⊥)"; "Refused, the queried word is FFFF hex"; "12: p is N or more"
+-- "the label query gives the word at p (0 at a ⊥)"; "Refused, N is 0 and the queried word FFFF hex."; 12: "p is N or more"
 pub record LabelAnswer : Type 0 where
   pub answer : Answer
   pub word : ℕ
@@ -65,7 +65,7 @@ labelAs p (refused x k) = record { answer = refusal x k; word = noWord }
 abbrev pub labelAt : List ℕ → ℕ → LabelAnswer
 labelAt file p = labelAs p (read file)
 
--- "the window expander fills a lent slice of words with the tree's words from p on"; "12: p plus its length is over N"; "A refused window is filled with FFFF hex"
+-- "the window expander fills a lent slice of words with the tree's words from p on"; 12: "p plus its length is over N"; "A refused window is filled with FFFF hex"
 pub record WindowAnswer : Type 0 where
   pub answer : Answer
   pub window : List ℕ
@@ -87,7 +87,7 @@ pub record FileAnswer : Type 0 where
   pub result : List ℕ
   pub work : List ℕ
 
--- "A refused call fills the whole result buffer with FF; an accepted one fills what follows the file with FF. The work area is all 0 after every call."
+-- "A refused call fills the whole result buffer with FF; an accepted one fills what follows the file with FF." "The work area is all 0 after every call."
 abbrev pub refusedFile : ℕ → ℕ → Refusal → ℕ → FileAnswer
 refusedFile room work x k = record { answer = refusal x k; result = replicate room noByte; work = replicate work 0 }
 
@@ -99,7 +99,7 @@ acceptedFile room work opened rounds file =
       work = replicate work 0;
     }
 
--- "13: rename or delete at a ⊥. 14: new label 0 or over 32,767. 15: fragment malformed, ⊥ alone or too long."
+-- 13: "rename or delete at a ⊥". 14: "new label 0 or over 32,767". 15: "fragment, or tree to pack, malformed, ⊥ alone or too long".
 abbrev pub treeAllowed : ℕ → List ℕ → Bool
 treeAllowed longest s = isPlainTree s && ltb 1 (length s) && leb (length s) longest
 
@@ -118,7 +118,7 @@ fragmentAllowed (rename l) = true
 fragmentAllowed (insert s) = treeAllowed longestFragment s
 fragmentAllowed delete = true
 
--- 16 and 17, of the new N. Only a delete can leave ⊥ alone, and only an insert can outgrow.
+-- 16: "the update would leave ⊥ alone". 17: "the new N would be over 2^40". Only a delete can leave ⊥ alone, and only an insert can outgrow.
 abbrev pub leftRefusals : ℕ → List (Bool × Refusal)
 leftRefusals nodes = (eqb nodes 1, NOTHING-LEFT) ∷ (isHuge nodes, OUTGROWN) ∷ []
 
@@ -131,7 +131,7 @@ updateRefusals tree u =
     ∷ (not (fragmentAllowed (u .edit)), TREE)
     ∷ leftRefusals (length (updated u tree))
 
--- "18: the finished file would be over 16,384 bytes. 19: the result buffer is shorter than the finished file."
+-- 18: "the finished file would be over 16,384 bytes". 19: "the result buffer is shorter than the finished file".
 abbrev pub fileRefusals : ℕ → List ℕ → List (Bool × Refusal)
 fileRefusals room file = (ltb largestFile (length file), FULL) ∷ (ltb room (length file), ROOM) ∷ []
 
@@ -164,7 +164,7 @@ updateAs room work u (taken rules) =
       | none ↦ finished room work (length (openedAt rules (u .at) .opened)) (remade rules u)
     ]
 
--- rename, insert and delete: "20; 9; then record by record; then 8, 10, 11; then 12 to 19". `room` and `work` are the lent slices' lengths.
+-- rename, insert and delete: 20 before what the file and the update have. `room` and `work` are the lent slices' lengths.
 unfoldable pub update : ℕ → ℕ → List ℕ → Update → FileAnswer
 update room work file u =
     elim (ltb work leastWork) [

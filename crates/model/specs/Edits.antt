@@ -15,10 +15,12 @@ pub data Edit : Type 0 where
 abbrev pub splice : ℕ → ℕ → List ℕ → List ℕ → List ℕ
 splice i go come ws = take i ws ++ come ++ drop (i + go) ws
 
--- "The subtree at p is written t_p", and its children t1 and t2
+-- "The subtree at p is written t_p"
 abbrev pub subtree : List ℕ → ℕ → List ℕ → List ℕ
 subtree ranks p ws = getD (forest ranks (drop p ws)) 0 []
 
+-- Its i-th child: t1 or t2 of an element. At a ⊥, which has none, this is the i-th tree that follows; nothing hangs on it, since a delete there is refused
+-- (13) before what it makes is looked at.
 abbrev pub child : List ℕ → ℕ → ℕ → List ℕ → List ℕ
 child ranks i p ws = getD (forest ranks (drop (suc p) ws)) (i - 1) []
 
@@ -27,7 +29,7 @@ abbrev pub lastReplaced : List ℕ → List ℕ → List ℕ
 lastReplaced s t = splice (length s - 1) 1 t s
 
 -- "Rename(p, label): the element word at p becomes the label."
--- "Insert(p, s): t_p is replaced by s with its last ⊥ replaced by t_p."
+-- Insert(p, s): "t_p is replaced by s with its last ⊥ replaced by t_p."
 -- "Delete(p): the element l(t1, t2) at p is replaced by t2."
 -- `ranks` are those of the rules that the words call: the same edit serves a tree and a start body.
 abbrev pub edited : List ℕ → Edit → ℕ → List ℕ → List ℕ
@@ -62,6 +64,7 @@ pieceAs (rename l) ws = l ∷ []
 pieceAs (insert s) ws = take (length s - 1) s ++ ws
 pieceAs delete ws = ws
 
+-- the first update at p decides; updates that are apart (below) have no second one there
 abbrev pub piece : List Update → ℕ → List ℕ → List ℕ
 piece [] p ws = ws
 piece (u ∷ us) p ws = cond (eqb (u .at) p) (pieceAs (u .edit) ws) (piece us p ws)
@@ -74,7 +77,7 @@ allFrom base us p (w ∷ ws) = cond (removed base us p) [] (piece us p (w ∷ []
 abbrev pub allAtOnce : List Update → List ℕ → List ℕ
 allAtOnce us base = allFrom base us 0 base
 
--- "with positions moved": what an update adds and takes away
+-- what an update adds and takes away
 abbrev pub added : Edit → ℕ
 added (rename l) = 0
 added (insert s) = length s - 1
@@ -100,7 +103,7 @@ tookBefore base (u ∷ us) p = cond (ltb (u .at) p) (took base u) 0 + tookBefore
 abbrev pub moved : List ℕ → List Update → ℕ → ℕ
 moved base earlier p = p + addedBefore earlier p - tookBefore base earlier p
 
--- "no two at one position, none at a node another removes"
+-- demand 3's premise, of two updates: not at one position, and neither at a node that the other removes
 abbrev pub clash : List ℕ → Update → Update → Bool
 clash base u v = eqb (u .at) (v .at) || removes base u (v .at) || removes base v (u .at)
 

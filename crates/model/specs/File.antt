@@ -88,7 +88,7 @@ readWhole rules [] =
       | none ↦ elim (eqb (nodes rules) 1) [ true ↦ refused EMPTY 0 | false ↦ taken rules ]
     ]
 
--- "record by record": `due` rules are still due after `rules`. "The place is the record number (head 0, rule r is r + 1, 8 gives n + 1)."
+-- "record by record": `due` rules are still due after `rules`. "The place in a refusal is the record number (head 0, rule r is r + 1, 8 gives n + 1)"
 abbrev pub readRules : ℕ → List Rule → List ℕ → Result (List Rule)
 readRules zero rules bytes = readWhole rules bytes
 readRules (suc due) rules bytes =

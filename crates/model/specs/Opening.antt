@@ -30,7 +30,8 @@ pub record Opened : Type 0 where
   pub place : ℕ
   pub opened : List ℕ
 
--- "A call that itself produces node p is replaced by its rule's body. Go on until p is an explicit word." `most` bounds how often: the numbers opened fall.
+-- "A call that itself produces node p is replaced by its rule's body, its children put in"; "Go on until p is an explicit word." `most` bounds how often: the
+-- numbers opened fall. What comes of it, without the walk: laws, Opening/Walk, `opened-from` (the same tree, p an explicit word, the numbers falling).
 abbrev pub openings : ℕ → List Rule → List ℕ → ℕ → Opened
 openings zero rules ws p = record { words = ws; place = ownerOf rules ws p; opened = [] }
 openings (suc most) rules ws p =

@@ -18,7 +18,7 @@ requestAllowed kind length =
     || eqb kind 17 && eqb length deleteBytes
     || eqb kind 18 && isEven length && within leastInsertBytes mostInsertBytes length
 
--- "21: the program's update record is cut, unknown or of wrong length"
+-- 21: "the program's update record is cut, unknown or of wrong length"
 abbrev pub requestRefused : List ℕ → Bool
 requestRefused bytes =
     ltb (length bytes) 6

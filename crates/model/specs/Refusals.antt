@@ -61,7 +61,7 @@ nameOf ROOM = 82 ∷ 79 ∷ 79 ∷ 77 ∷ []
 nameOf WORK = 87 ∷ 79 ∷ 82 ∷ 75 ∷ []
 nameOf REQUEST = 82 ∷ 69 ∷ 81 ∷ 85 ∷ 69 ∷ 83 ∷ 84 ∷ []
 
--- "The place in a refusal is the record number for 1 to 8 and 10, and otherwise 0."
+-- "The place in a refusal is the record number (head 0, rule r is r + 1, 8 gives n + 1) for 1 to 8 and 10, and otherwise 0."
 abbrev pub placeOf : Refusal → ℕ → ℕ
 placeOf x record-number = cond (leb (numberOf x) 8 || eqb (numberOf x) 10) record-number 0
 

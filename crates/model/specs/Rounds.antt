@@ -66,7 +66,8 @@ abbrev pub isTaken : List Bool → Bool
 isTaken [] = false
 isTaken (m ∷ ms) = m
 
--- "Its occurrences are counted in each body once, in preorder": each word's part, `marks` having one mark for each tree still to come
+-- "Its occurrences are counted in each body once, in preorder": each word's part, `marks` having one mark for each tree still to come. A body starts with no
+-- mark: its root is nobody's child, and a missing mark reads as not taken. What the parts are, without the pass: laws, Rounds/Parts, `body-parted`.
 abbrev pub parts : List ℕ → Digram → List Bool → List ℕ → List Part
 parts ranks d marks [] = []
 parts ranks d marks (w ∷ ws) =
@@ -106,6 +107,8 @@ abbrev pub bestOf : Counted → Option Counted → Counted
 bestOf x none = x
 bestOf x (some y) = cond (better x y) x y
 
+-- The first of `digrams` may come again; it counts as much each time. What the choice is, without the order of the list: laws, Rounds/Choice, `choice-is`,
+-- `choice-none` and `is-choice`.
 abbrev pub choiceAmong : List ℕ → List Rule → List Digram → Option Counted
 choiceAmong ranks rules [] = none
 choiceAmong ranks rules (d ∷ ds) =

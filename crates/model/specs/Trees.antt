@@ -74,7 +74,7 @@ parametersFrom i (suc k) = parameterWord i ∷ parametersFrom (suc i) k
 abbrev pub parameters : ℕ → List ℕ
 parameters k = parametersFrom 1 k
 
--- "A rule of rank k has a body that is one complete tree and holds y1 to yk once each, in that order, and no other parameter. The body isn't a parameter alone."
+-- "A rule of rank k (0 to 4) has a body that is one complete tree and holds y1 to yk once each, in that order, and no other parameter. The body isn't a parameter alone."
 abbrev pub obeys : List ℕ → ℕ → List ℕ → Bool
 obeys ranks k body = isTree ranks body && same (those isParameter body) (parameters k) && not (same body (parameterWord 1 ∷ []))
 

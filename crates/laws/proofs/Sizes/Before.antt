@@ -1,22 +1,19 @@
 -- What stands before a place of a body: a complete tree put there stands whole in the expansion, after as many nodes as the words before it add up to.
-use Prim.Native.Nat.{ℕ, zero, suc, _+_, _-_, _<_}
+use Prim.Native.Nat.{ℕ, zero, suc, _+_, _<_}
 use mathlib.Core.Path.{_≡_, refl, sym, ap, _∙_}
-use mathlib.Core.Bool.{Bool, true, false, cond}
-use mathlib.Core.List.{List, [], _∷_, _++_, append-assoc}
-use native.Mathlib.Nat.{zero-add, add-zero, add-assoc}
+use mathlib.Core.Bool.{Bool, true, false}
+use mathlib.Core.List.{List, [], _∷_, _++_}
 use native.Mathlib.Omega.{arith}
-use borrow.Author.Tests.{le-ltb, lt-ltb}
-use lib.Dec.{ltb}
 use lib.ListN.{length, take, drop, getD}
 use lib.Seq.{take-all, append-snoc}
 use Rattle.model.specs.Words.{rankOf, isParameter, rankAs}
 use Rattle.model.specs.Trees.{join, those, grow, expand, size, gapSizes}
 use Rattle.laws.specs.Formed.{height, Fits, Tree, Env, stackOf}
-use Rattle.laws.specs.Sums.{sumOf, sum, ownSize, sizeBefore, ownBefore, depthOf, beforeAt, beforePlace}
-use Rattle.laws.proofs.Trees.Folds.{fold-append, fits-split, tree-front}
+use Rattle.laws.specs.Sums.{sum, sizeBefore, beforePlace}
+use Rattle.laws.proofs.Trees.Folds.{fold-append, fits-split}
 use Rattle.laws.proofs.Trees.Expansion.{stack-tree}
 use Rattle.laws.proofs.Trees.Fills.{those-in, those-out, size-node, size-param, grow-other, parameter-class}
-use Rattle.laws.proofs.Sizes.Gaps.{length-gaps, size-gaps, length-size}
+use Rattle.laws.proofs.Sizes.Gaps.{length-gaps, size-gaps}
 use Rattle.laws.proofs.Sizes.Within.{expand-around}
 use Rattle.laws.proofs.Sizes.Inserted.{before-node, before-param}
 
@@ -96,62 +93,3 @@ module _ (ranks : List ℕ) (lower : List (List ℕ)) (env : Env ranks lower) wh
       let A = expand-around ranks lower env xs ys (rw h at (fits-split (rankOf ranks) xs (y ∷ ys) 0 f .0)) in
       before-parted (expand ranks lower (xs ++ y ∷ ys)) (A .front) (A .back) y (beforePlace ranks lower xs) (those isParameter xs) e
       (expand-parameter xs y ys (A .front) (A .back) e (A .around (y ∷ []))) (A .front-parameters) (A .front-size)
-
-  -- the same of a place with a complete tree in a body without parameters before it: where the tree's nodes begin
-  pub place-sum : (xs t ys : List ℕ) → Tree ranks t → Fits (rankOf ranks) 0 (xs ++ t ++ ys) → those isParameter xs ≡ []
-      → (P : List ℕ) × (S : List ℕ) × (expand ranks lower (xs ++ t ++ ys) ≡ P ++ expand ranks lower t ++ S) × (length P ≡ beforePlace ranks lower xs)
-  place-sum xs t ys tr f e =
-      let g = fits-split (rankOf ranks) xs (t ++ ys) 0 (rw append-assoc at f) in
-      let u = fits-split (rankOf ranks) t ys 0 (g .1) in
-      let h = tree-front ranks 0 t ys tr (u .1) .1 in
-      let A = expand-around ranks lower env xs ys (rw h at (g .0)) in (
-        A .front,
-        A .back,
-        expand-place ranks lower xs t ys tr ∙ A .around (expand ranks lower t),
-        omega (arith, length-size (A .front), A .front-size, ap length (A .front-parameters ∙ e)),
-      )
-
--- Words that are complete trees of their own, before a place: all their nodes stand before it.
-module _ (ranks : List ℕ) (lower : List (List ℕ)) where
-  pub depth-trees : (d : ℕ) (xs : List ℕ) → Fits (rankOf ranks) 0 xs → depthOf (rankOf ranks) d xs ≡ height (rankOf ranks) 0 xs + d
-  depth-trees d [] f = sym (zero-add d)
-  depth-trees d (x ∷ xs) f =
-      let ih = depth-trees d xs (f .1) in
-      ap (λ (b : Bool). cond b 0 (suc (depthOf (rankOf ranks) d xs - rankOf ranks x))) (le-ltb (depthOf (rankOf ranks) d xs) (rankOf ranks x) (omega (arith, f .0)))
-      ∙ omega (arith, f .0)
-
-  pub before-trees : (d : ℕ) (xs : List ℕ) → Fits (rankOf ranks) 0 xs → beforeAt ranks lower d xs ≡ sumOf (ownSize lower) xs
-  before-trees d [] f = refl
-  before-trees d (x ∷ xs) f =
-      let e = depthOf (rankOf ranks) d xs in
-      ap (λ (b : Bool). cond b (ownBefore lower (suc e) x) (ownSize lower x) + beforeAt ranks lower d xs) (le-ltb e (rankOf ranks x) (omega (arith, f .0, depth-trees d xs (f .1))))
-      ∙ ap (λ (n : ℕ). ownSize lower x + n) (before-trees d xs (f .1))
-
-  pub depth-append : (d : ℕ) (xs ys : List ℕ) → depthOf (rankOf ranks) d (xs ++ ys) ≡ depthOf (rankOf ranks) (depthOf (rankOf ranks) d ys) xs
-  depth-append d [] ys = refl
-  depth-append d (x ∷ xs) ys = ap (λ (e : ℕ). cond (ltb e (rankOf ranks x)) 0 (suc (e - rankOf ranks x))) (depth-append d xs ys)
-
-  pub before-append : (d : ℕ) (xs ys : List ℕ) → beforeAt ranks lower d (xs ++ ys) ≡ beforeAt ranks lower (depthOf (rankOf ranks) d ys) xs + beforeAt ranks lower d ys
-  before-append d [] ys = sym (zero-add (beforeAt ranks lower d ys))
-  before-append d (x ∷ xs) ys =
-      let e = depthOf (rankOf ranks) (depthOf (rankOf ranks) d ys) xs in
-      let own : ℕ → ℕ = λ e. cond (ltb e (rankOf ranks x)) (ownBefore lower (suc e) x) (ownSize lower x) in
-      ap (λ (m : ℕ). own m + beforeAt ranks lower d (xs ++ ys)) (depth-append d xs ys)
-      ∙ ap (λ (n : ℕ). own e + n) (before-append d xs ys)
-      ∙ sym (add-assoc (own e) (beforeAt ranks lower (depthOf (rankOf ranks) d ys) xs) (beforeAt ranks lower d ys))
-
-  -- from a word to one of its children, over the children before it: what the walk adds
-  pub before-step : (xs : List ℕ) (x : ℕ) (ts : List ℕ) → Fits (rankOf ranks) 0 ts → height (rankOf ranks) 0 ts < rankOf ranks x
-      → beforePlace ranks lower (xs ++ x ∷ ts) ≡ beforePlace ranks lower xs + ownBefore lower (suc (height (rankOf ranks) 0 ts)) x + sumOf (ownSize lower) ts
-  before-step xs x ts f h =
-      let e : depthOf (rankOf ranks) 0 ts ≡ height (rankOf ranks) 0 ts = depth-trees 0 ts f ∙ add-zero (height (rankOf ranks) 0 ts) in
-      let over : ltb (depthOf (rankOf ranks) 0 ts) (rankOf ranks x) ≡ true = lt-ltb (depthOf (rankOf ranks) 0 ts) (rankOf ranks x) (omega arith) in
-      let depth : depthOf (rankOf ranks) 0 (x ∷ ts) ≡ 0 = ap (λ (b : Bool). cond b 0 (suc (depthOf (rankOf ranks) 0 ts - rankOf ranks x))) over in
-      let here : beforeAt ranks lower 0 (x ∷ ts) ≡ ownBefore lower (suc (height (rankOf ranks) 0 ts)) x + sumOf (ownSize lower) ts
-      = ap (λ (b : Bool). cond b (ownBefore lower (suc (depthOf (rankOf ranks) 0 ts)) x) (ownSize lower x) + beforeAt ranks lower 0 ts) over
-      ∙ ap (λ (m : ℕ). ownBefore lower (suc m) x + beforeAt ranks lower 0 ts) e
-      ∙ ap (λ (n : ℕ). ownBefore lower (suc (height (rankOf ranks) 0 ts)) x + n) (before-trees 0 ts f) in
-      before-append 0 xs (x ∷ ts)
-      ∙ ap (λ (d : ℕ). beforeAt ranks lower d xs + beforeAt ranks lower 0 (x ∷ ts)) depth
-      ∙ ap (λ (n : ℕ). beforePlace ranks lower xs + n) here
-      ∙ sym (add-assoc (beforePlace ranks lower xs) (ownBefore lower (suc (height (rankOf ranks) 0 ts)) x) (sumOf (ownSize lower) ts))

@@ -7,7 +7,7 @@ use native.Mathlib.Nat.{add-zero, add-assoc}
 use native.Mathlib.Omega.{arith}
 use borrow.Author.Tests.{ltb-true, ltb-false}
 use lib.Dec.{T, ltb}
-use lib.ListN.{length, take, drop, getD, length-append, length-drop}
+use lib.ListN.{length, take, drop, length-append, length-drop}
 use lib.Seq.{length-take-le, take-append-add, drop-append-add, take-append-le, drop-append-le}
 use Rattle.model.specs.Words.{Class, empty, label, parameter, call, illegal, classOf, rankOf, isParameter, isParameterAs, rankAs}
 use Rattle.model.specs.Trees.{push, join, those, grow, size}

@@ -1,10 +1,10 @@
 -- A body filled with complete trees is one, and expands to complete trees of labels, ⊥ and parameters.
 use Prim.Native.Nat.{ℕ, suc, _+_, _-_, _<_}
 use mathlib.Core.Path.{_≡_, refl, ap, _∙_}
-use mathlib.Core.Bool.{Bool, true, false, _||_}
+use mathlib.Core.Bool.{Bool, _||_}
 use mathlib.Core.List.{List, [], _∷_}
 use native.Mathlib.Omega.{arith}
-use lib.Dec.{T, ltb}
+use lib.Dec.{T}
 use lib.ListN.{length, take, getD}
 use lib.Seq.{length-take-le}
 use mir.Facts.{yes-and}

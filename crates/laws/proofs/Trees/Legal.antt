@@ -1,10 +1,9 @@
 -- A body that calls only rules below n means the same wherever the ranks and expansions below n are the same.
 use Prim.Native.Nat.{ℕ, _≤_, _<_}
 use mathlib.Core.Path.{_≡_, refl, sym, ap, _∙_}
-use mathlib.Core.Bool.{true, false}
 use mathlib.Core.List.{List, [], _∷_}
 use native.Mathlib.Omega.{arith}
-use lib.Dec.{T, ltb, ltb→lt, lt→ltb}
+use lib.Dec.{T, ltb→lt, lt→ltb}
 use lib.ListN.{take, drop, getD}
 use Rattle.model.specs.Words.{Class, empty, label, parameter, call, illegal, classOf, byClass, rankOf, rankAs}
 use Rattle.model.specs.Trees.{join, all, isLegal, grow, fill, push, expand, isLegalAs}

@@ -4,7 +4,7 @@ use mathlib.Core.Path.{_≡_, refl, sym, ap, _∙_, ap₂}
 use mathlib.Core.Bool.{true, false, not}
 use mathlib.Core.List.{List, [], _∷_, map}
 use native.Mathlib.Omega.{arith}
-use lib.Dec.{T, ltb, eqb, lt→ltb, not-T, T-not, eqb→eq}
+use lib.Dec.{T, eqb, lt→ltb, not-T, T-not, eqb→eq}
 use lib.ListN.{length, getD, take, drop}
 use mir.Facts.{and-yes, yes-and}
 use Rattle.model.specs.Words.{Class, empty, label, parameter, call, illegal, classOf, rankOf, isParameter, renumbered, callWord, parameterWord, isParameterAs, rankAs}

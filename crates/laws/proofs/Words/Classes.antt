@@ -3,9 +3,8 @@ use Prim.Native.Nat.{ℕ, _-_, _≤_, _<_}
 use mathlib.Core.Path.{_≡_, refl, ap}
 use mathlib.Core.Bool.{Bool, true, false, cond, and-false, not, true≢false}
 use mathlib.Core.List.{List, []}
-use lib.ListN.{getD}
 use native.Mathlib.Omega.{arith}
-use lib.Dec.{T, leb, eqb, leb→le, le→leb, ltb}
+use lib.Dec.{T, leb, eqb, leb→le, le→leb}
 use borrow.Author.Tests.{lt-leb, ne-eqb, eqb-true}
 use mir.Facts.{and-yes, yes-and}
 use Rattle.model.specs.Trees.{isLegal, isLegalAs}
