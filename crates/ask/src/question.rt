@@ -5,7 +5,7 @@ ghost use Rattle.ask.specs.Question.{question_of, bare_question, label_question,
 use check::same;
 use text::numbers::{Number, read_decimal};
 
-#[derive(Drop)]
+#[derive(Clone, Copy)]
 pub enum Question {
     Check,
     Count,

@@ -6,7 +6,7 @@ use crate::records::{Found, next};
 
 // The length of the file asked about, the case's kind and its payload's length, how many cases there were and how many of them were answered wrong,
 // and whether this one is a case or the data's end.
-#[derive(Drop)]
+#[derive(Clone, Copy)]
 pub struct Progress {
     pub length: usize,
     pub kind: u16,

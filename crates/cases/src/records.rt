@@ -6,7 +6,7 @@ ghost use Rattle.cases.specs.Records.{Fits, long_in, WordsAt};
 use grammar::file::{length_at, word_at};
 
 // What the next record is: a file, with its length, or a case, with its kind and its payload's length. It is at the start of `file` or of `case`.
-#[derive(Drop)]
+#[derive(Clone, Copy)]
 pub(crate) enum Found {
     File(usize),
     Case(u16, usize),
@@ -48,7 +48,7 @@ fn read_payload(fd: i32, out: &mut [u8], n: usize) -> bool
 }
 
 // What a case asks, and what is right.
-#[derive(Drop)]
+#[derive(Clone, Copy)]
 pub struct Question {
     pub position: u64,
     pub number: u16,

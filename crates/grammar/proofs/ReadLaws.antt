@@ -10,7 +10,6 @@ use Rattle.model.specs.Trees.{Rule, expansions, nodes, lowest_huge}
 use Rattle.model.specs.Refusals.{Result, taken, refused, TRAIL, HUGE, EMPTY}
 use Rattle.model.specs.File.{read_whole}
 use Rattle.grammar.specs.declared.refusals.Refusal.{Refusal}
-use Rattle.grammar.specs.declared.refusals.Refusal.TheVariants as refusals
 use Rattle.grammar.specs.declared.rules.Reading.{Reading}
 use Rattle.grammar.specs.declared.rules.Reading.TheVariants.{Taken, Refused}
 use Rattle.grammar.specs.Meaning.{refusal_is, reading_of, rule_table, padded, entries}

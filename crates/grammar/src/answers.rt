@@ -38,7 +38,7 @@ pub fn answer_of(r: Reading) -> Answer
 }
 
 // An answer with N.
-#[derive(Drop)]
+#[derive(Clone, Copy)]
 pub struct Counted {
     pub answer: Answer,
     pub nodes: u64,

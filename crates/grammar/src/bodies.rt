@@ -53,7 +53,7 @@ fn legal_word(w: u16, r: usize) -> bool
 }
 
 // A position in a body: how many words were passed, and how many trees are still due there.
-#[derive(Drop)]
+#[derive(Clone, Copy)]
 pub struct Cursor {
     pub at: usize,
     pub due: usize,

@@ -43,7 +43,7 @@ fn allowed(kind: u16, len: usize) -> bool
 }
 
 // A record at a place: its payload's length, or the first refusal of "six header bytes 1, kind 2, length 3, payload bytes 1".
-#[derive(Drop)]
+#[derive(Clone, Copy)]
 pub(crate) enum Record {
     Payload(usize),
     Refused(Refusal),

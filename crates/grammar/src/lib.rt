@@ -9,6 +9,8 @@
 //   sizes      the table of gap sizes; of a rule a gap, and its size
 //   read       a file read whole, with both tables
 //   answers    the checker and the node counter
+#![tactic(auto)]
+
 pub mod answers;
 pub mod bodies;
 pub mod file;

@@ -1,5 +1,5 @@
 // Document 01, "Refusal numbers": the closed list, and an answer that names one of it beside its counts.
-#[derive(Drop)]
+#[derive(Clone, Copy)]
 pub enum Refusal {
     Short,
     Kind,
@@ -25,13 +25,13 @@ pub enum Refusal {
 }
 
 // Accepted, or a refusal with its place.
-#[derive(Drop)]
+#[derive(Clone, Copy)]
 pub enum Verdict {
     Accepted,
     Refused(Refusal, usize),
 }
 
-#[derive(Drop)]
+#[derive(Clone, Copy)]
 pub struct Answer {
     pub verdict: Verdict,
     pub opened: usize,

@@ -10,7 +10,7 @@ use crate::file::{Record, record_at, word_at};
 use crate::refusals::Refusal;
 
 // What stands at a rule's place: its rank and the number of its body's words, or the first refusal.
-#[derive(Drop)]
+#[derive(Clone, Copy)]
 pub(crate) enum Found {
     Rule(usize, usize),
     Refused(Refusal),
@@ -53,7 +53,7 @@ fn rule_in(file: &[u8], at: usize, len: usize, table: &[u16], r: usize, last: bo
 }
 
 // What a file was found to be: taken, or the first refusal with its record number.
-#[derive(Drop)]
+#[derive(Clone, Copy)]
 pub enum Reading {
     Taken(usize),
     Refused(Refusal, usize),

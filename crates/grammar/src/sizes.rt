@@ -99,7 +99,7 @@ pub(crate) fn before(
 }
 
 // What measuring finds: every rule within the largest size, or the lowest rule that is over it.
-#[derive(Drop)]
+#[derive(Clone, Copy)]
 pub(crate) enum Measured {
     Fits,
     Huge(usize),

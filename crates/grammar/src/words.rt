@@ -4,7 +4,7 @@ ghost use Rattle.model.specs.Words.{class_of};
 ghost use Rattle.grammar.specs.Meaning.{class_is};
 
 // The rows of the table; a parameter's number is from 1, a call names the rule that it calls.
-#[derive(Drop)]
+#[derive(Clone, Copy)]
 pub enum Word {
     Empty,
     Label,

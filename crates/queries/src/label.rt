@@ -7,7 +7,7 @@ use crate::window::window;
 use grammar::refusals::Answer;
 
 // An answer with the word.
-#[derive(Drop)]
+#[derive(Clone, Copy)]
 pub struct Labelled {
     pub answer: Answer,
     pub word: u16,

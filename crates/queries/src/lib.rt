@@ -8,6 +8,8 @@
 // and a window of L words costs about L more.
 // Stack: 64,000 bytes in arrays for a window, whatever the file: 1,536 (rule table), 10,240 (size table), 32,768 (pieces), 2,560 (where gaps start),
 // 16,384 (words that are open in a body) and 512 (places of a walk to come back to, at most 255); 2 more for a label's word. No function calls itself.
+#![tactic(auto)]
+
 pub mod label;
 mod pieces;
 mod walk;

@@ -43,7 +43,7 @@ fn put(pieces: &mut [u16], top: usize, c: u16) -> usize
 }
 
 // How many pieces there are, and how many words of the body are open.
-#[derive(Drop)]
+#[derive(Clone, Copy)]
 pub struct Place {
     pub top: usize,
     pub depth: usize,
@@ -78,7 +78,7 @@ fn close(
 }
 
 // How many pieces there are, and the gap whose pieces come next.
-#[derive(Drop)]
+#[derive(Clone, Copy)]
 pub struct Next {
     pub top: usize,
     pub gap: usize,

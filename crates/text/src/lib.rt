@@ -3,6 +3,8 @@
 //   numbers    decimal and hexadecimal numbers as text, and decimal text read back
 //   refusals   document 01's number, place and name of a refusal
 //   answers    an answer as a line
+#![tactic(auto)]
+
 pub mod answers;
 pub mod lines;
 pub mod numbers;

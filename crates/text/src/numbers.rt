@@ -54,7 +54,7 @@ pub fn put_words(words: &[u16], out: &mut [u8], at: usize) -> usize
 }
 
 // What decimal text says: a number below 2^64, or none.
-#[derive(Drop)]
+#[derive(Clone, Copy)]
 pub enum Number {
     Is(u64),
     Not,

@@ -35,7 +35,7 @@ pub(crate) fn number(x: Refusal) -> usize
 }
 
 // A name: the first bytes of `text`.
-#[derive(Drop)]
+#[derive(Clone, Copy)]
 pub(crate) struct Spelled {
     pub text: [u8; 12],
     pub length: usize,

@@ -9,7 +9,7 @@ use text::lines::put;
 use text::numbers::put_decimal;
 use text::refusals::{verdict_number, verdict_place};
 
-#[derive(Drop)]
+#[derive(Clone, Copy)]
 pub struct Tally {
     pub accepted: u64,
     pub sum: u32,

@@ -5,7 +5,7 @@ use check::same;
 use text::numbers::{Number, read_decimal};
 
 // An operation, and how many times it is called.
-#[derive(Drop)]
+#[derive(Clone, Copy)]
 pub enum Task {
     Check(u64),
     Count(u64),

@@ -2,7 +2,7 @@
 use Prim.Native.Nat.{ℕ, zero, suc, ◌<◌}
 use mathlib.Core.Path.{◌≡◌, refl, sym, ap, ap₂, subst, ◌∙◌}
 use mathlib.Core.Bool.{Bool, true, false, false≢true}
-use mathlib.Core.List.{List, [], ◌∷◌, ◌++◌, map, map_append}
+use mathlib.Core.List.{List, [], ◌∷◌, ◌++◌, map, map-append}
 use lib.Dec.{T}
 use lib.ListN
 use lib.ListN.{length, take, drop, get_or, length-map}
@@ -85,15 +85,15 @@ marked_open before k ts body = map unmarked before ++ fill (λ v. (true, v)) (ta
 
 pub words_marked : (before : List ℕ) (w : ℕ) (ts : List (List ℕ)) → map word_of (marked before w ts) ≡ before ++ w ∷ join ts
 words_marked before w ts =
-    map_append word_of (map unmarked before) ((true, w) ∷ join (map (map unmarked) ts))
+    map-append word_of (map unmarked before) ((true, w) ∷ join (map (map unmarked) ts))
     ∙ ap₂ (λ (x y : List ℕ). x ++ w ∷ y) (words_unmarked before) (map_join word_of (map (map unmarked) ts) ∙ ap join (trees_unmarked ts))
 
 pub words_marked_open : (before : List ℕ) (k : ℕ) (ts : List (List ℕ)) (body : List ℕ)
     → map word_of (marked_open before k ts body) ≡ before ++ fill (λ v. v) (take k ts) body ++ join (drop k ts)
 words_marked_open before k ts body =
-    map_append word_of (map unmarked before ++ P) (join (drop k (map (map unmarked) ts)))
+    map-append word_of (map unmarked before ++ P) (join (drop k (map (map unmarked) ts)))
     ∙ ap₂ ◌++◌
-    (map_append word_of (map unmarked before) P
+    (map-append word_of (map unmarked before) P
     ∙ ap₂ ◌++◌ (words_unmarked before)
     (map_fill word_of (λ v. (true, v)) (take k (map (map unmarked) ts)) body
     ∙ ap (λ (l : List (List ℕ)). fill (λ v. v) l body) (map_take (map word_of) k (map (map unmarked) ts) ∙ ap (take k) (trees_unmarked ts))))

@@ -2,7 +2,7 @@
 use Prim.Native.Nat.{ℕ, zero, suc, ◌+◌, ◌-◌, ◌≤◌, ◌<◌}
 use mathlib.Core.Path.{◌≡◌, refl, sym, ap, ap₂, ◌∙◌}
 use mathlib.Core.Bool.{Bool, true, false}
-use mathlib.Core.List.{List, [], ◌∷◌, ◌++◌, map, append_assoc, map_append}
+use mathlib.Core.List.{List, [], ◌∷◌, ◌++◌, map, append_assoc, map-append}
 use native.Mathlib.Omega.{arith}
 use lib.ListN.{length, take, drop, get_or, set, replicate, length-append, length-take, length-drop, length-map, length-replicate, replicate-append-replicate, get_or-map}
 use lib.Seq.{drop-cons, drop-drop, get_or-drop, get_or-take, length-take-le, take-add, take_at, drop_at, set_at}
@@ -123,7 +123,7 @@ module _ (ranks : List ℕ) (lower : List (List ℕ)) (d : Digram) (is : IsDigra
       let len : length before ≡ n = length-map (take n xs) (tree_at lower) ∙ length-take-le n xs (omega arith) in
       let all : map (tree_at lower) (take (n + suc p) xs) ≡ before ++ tree_at lower x ∷ after
       = ap (map (tree_at lower)) (take-add n (suc p) xs ∙ ap (λ l. take n xs ++ take (suc p) l) (drop-cons xs n (0, []) (omega arith)))
-      ∙ map_append (tree_at lower) (take n xs) (x ∷ take p (drop (suc n) xs))
+      ∙ map-append (tree_at lower) (take n xs) (x ∷ take p (drop (suc n) xs))
       in
       fill_new ranks lower d is small (front lower n p xs) length_front
       ∙ ap (λ k. grow (λ v. v) lower d.a (take k (front lower n p xs) ++ push (rank_of ranks) (grow (λ v. v) lower) d.b (drop k (front lower n p xs)))) less

@@ -1,7 +1,7 @@
 -- A body with a hole that one complete tree fills: what fills it stands whole in the expansion, and owns the nodes there and no others.
 use Prim.Native.Nat.{ℕ, suc, ◌+◌, ◌-◌, ◌≤◌, ◌<◌}
 use mathlib.Core.Path.{◌≡◌, refl, sym, ap, ap₂, subst, ◌∙◌}
-use mathlib.Core.List.{List, [], ◌∷◌, ◌++◌, map, append-nil, append_assoc, map-map, map_append}
+use mathlib.Core.List.{List, [], ◌∷◌, ◌++◌, map, append-nil, append_assoc, map-map, map-append}
 use native.Mathlib.Omega.{arith}
 use lib.ListN.{length, get_or, length-append, length-map, get_or-append}
 use lib.Seq.{get_or-append-add}
@@ -47,9 +47,9 @@ map_same (x ∷ xs) = ap (λ r. x ∷ r) (map_same xs)
 
 spots_placed : (xs new ys : List ℕ) → map (on (spot_place (length xs) (length new))) (spots xs new ys) ≡ placed 0 (xs ++ new ++ ys)
 spots_placed xs new ys =
-    map_append g (map (on left) (placed 0 xs) ++ map (on inside) (placed 0 new)) (map (on right) (placed 0 ys))
+    map-append g (map (on left) (placed 0 xs) ++ map (on inside) (placed 0 new)) (map (on right) (placed 0 ys))
     ∙ ap₂ (λ a b. a ++ b)
-    (map_append g (map (on left) (placed 0 xs)) (map (on inside) (placed 0 new))
+    (map-append g (map (on left) (placed 0 xs)) (map (on inside) (placed 0 new))
     ∙ ap₂ (λ a b. a ++ b)
     (map-map g (on left) (placed 0 xs) ∙ map_same (placed 0 xs))
     (map-map g (on inside) (placed 0 new) ∙ placed_shift (length xs) 0 new ∙ ap (λ n. placed n new) (omega arith))
@@ -65,9 +65,9 @@ spot_words g ws = map-map (λ x. x.1) (on g) (placed 0 ws) ∙ placed_words 0 ws
 
 spots_words : (xs new ys : List ℕ) → map (λ x. x.1) (spots xs new ys) ≡ xs ++ new ++ ys
 spots_words xs new ys =
-    map_append (λ x. x.1) (map (on left) (placed 0 xs) ++ map (on inside) (placed 0 new)) (map (on right) (placed 0 ys))
+    map-append (λ x. x.1) (map (on left) (placed 0 xs) ++ map (on inside) (placed 0 new)) (map (on right) (placed 0 ys))
     ∙ ap₂ (λ a b. a ++ b)
-    (map_append (λ x. x.1) (map (on left) (placed 0 xs)) (map (on inside) (placed 0 new)) ∙ ap₂ (λ a b. a ++ b) (spot_words left xs) (spot_words inside new))
+    (map-append (λ x. x.1) (map (on left) (placed 0 xs)) (map (on inside) (placed 0 new)) ∙ ap₂ (λ a b. a ++ b) (spot_words left xs) (spot_words inside new))
     (spot_words right ys)
 
 -- not in the hole
@@ -164,7 +164,7 @@ module _ (ranks : List ℕ) (lower : List (List ℕ)) where
           }
 
   map_append₃ : {A B : Type 0} (h : A → B) (xs ys zs : List A) → map h (xs ++ ys ++ zs) ≡ map h xs ++ map h ys ++ map h zs
-  map_append₃ h xs ys zs = map_append h (xs ++ ys) zs ∙ ap (λ r. r ++ map h zs) (map_append h xs ys)
+  map_append₃ h xs ys zs = map-append h (xs ++ ys) zs ∙ ap (λ r. r ++ map h zs) (map-append h xs ys)
 
   module _ {xs ys : List ℕ} (h : Hole xs ys) (new : List ℕ) (t : Tree ranks new) where
     pub hole_expand : expand ranks lower (xs ++ new ++ ys) ≡ map (λ x. x.1) h.nodes_before ++ expand ranks lower new ++ map (λ x. x.1) h.nodes_after

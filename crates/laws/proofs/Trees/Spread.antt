@@ -3,7 +3,7 @@ use Prim.Native.Nat.{ℕ, suc, ◌+◌, ◌-◌, ◌≤◌, ◌<◌}
 use native.Mathlib.Omega.{arith}
 use native.Mathlib.Nat.{zero-add, add-zero, add-suc, suc-add}
 use mathlib.Core.Path.{◌≡◌, refl, sym, ap, ap₂, ◌∙◌}
-use mathlib.Core.List.{List, [], ◌∷◌, ◌++◌, map, append-nil, map_append}
+use mathlib.Core.List.{List, [], ◌∷◌, ◌++◌, map, append-nil, map-append}
 use lib.ListN.{length, take, drop, get_or, length-drop, get_or-map}
 use lib.Seq.{get_or-drop, get_or-take}
 use Rattle.model.specs.Words.{Class, empty, label, parameter, call, illegal, class_of, when_parameter, rank_of, is_parameter}
@@ -15,14 +15,14 @@ use Rattle.laws.proofs.Words.Lists.{map_take, map_drop}
 
 pub map_join : {A B : Type 0} (g : A → B) (ts : List (List A)) → map g (join ts) ≡ join (map (map g) ts)
 map_join g [] = refl
-map_join {B = B} g (t ∷ ts) = map_append g t (join ts) ∙ ap (λ (l : List B). map g t ++ l) (map_join g ts)
+map_join {B = B} g (t ∷ ts) = map-append g t (join ts) ∙ ap (λ (l : List B). map g t ++ l) (map_join g ts)
 
 -- other nodes in the place of the nodes
 pub map_fill : {A B : Type 0} (g : A → B) (ν : ℕ → A) (children : List (List A)) (ws : List ℕ)
     → map g (fill ν children ws) ≡ fill (λ v. g (ν v)) (map (map g) children) ws
 map_fill g ν children [] = refl
 map_fill {A} {B} g ν children (w ∷ ws) =
-    map_append g (when_parameter (ν w ∷ []) (λ i. get_or children (i - 1) []) w) (fill ν children ws)
+    map-append g (when_parameter (ν w ∷ []) (λ i. get_or children (i - 1) []) w) (fill ν children ws)
     ∙ ap₂ ◌++◌ (go (class_of w) refl) (map_fill g ν children ws)
   where
     go : (c : Class) → class_of w ≡ c

@@ -1,0 +1,10 @@
+-- `grammar::answers::check` meets its contract: the answer is that of the model's reading.
+use mathlib.Core.Path.{ap, ◌∙◌}
+use Rattle.grammar.specs.Meaning.{query_answer}
+use Rattle.grammar.proofs.Answering.{query_checked}
+use Rattle.grammar.proofs.answers.check.Goals as goal
+
+pub returns : goal.returns
+returns c =
+    let file = c.args.file.now in
+    c.answer_of.ensures ∙ ap query_answer c.read.ensures.reading ∙ query_checked file

@@ -1,0 +1,55 @@
+-- `grammar::sizes::before` meets its contract: the words from i on, read towards the place.
+use Prim.Native.Nat.{◌+◌, ◌≤◌, ◌<◌, ◌-◌}
+use mathlib.Core.Path.{◌≡◌}
+use native.Mathlib.Omega.{arith}
+use lib.ListN.{drop}
+use Rattle.model.specs.Words.{rank_of}
+use Rattle.laws.specs.Sums.{depth_of}
+use Rattle.grammar.specs.Meaning.{body_in, ranks_in}
+use Rattle.grammar.specs.Measures.{own_by, before_by}
+use Rattle.grammar.proofs.Due.{rank_small}
+use Rattle.grammar.proofs.Measuring.{before_none, depth_none, word_over, word_beside}
+use Rattle.grammar.proofs.sizes.before.Goals.{After-rank_of-rank}
+use Rattle.grammar.proofs.sizes.before.Goals as goal
+
+pub loop-i-init : goal.loop-i-init
+loop-i-init c =
+    let file = c.args.file.now in
+    let rk = rank_of (ranks_in c.args.r c.args.table.now) in (
+      omega arith,
+      before_none file c.args.at c.args.place c.requires.0 rk c.args.sizes.now,
+      depth_none file c.args.at c.args.place c.requires.0 rk,
+      omega arith,
+      omega arith,
+    )
+
+passed-word : (c : After-rank_of-rank)
+    → let a = c.args in
+    let l = c.loop-i in
+    let rk = rank_of (ranks_in a.r a.table.now) in
+    let sizes = a.sizes.now in
+    let left = drop (l.i - 1) (body_in a.file.now a.at a.place) in
+    (l.depth < rk c.word_at-w.result → (l.sum + own_by sizes (l.depth + 1) c.word_at-w.result ≡ before_by rk sizes left) × (0 ≡ depth_of rk 0 left))
+    × (rk c.word_at-w.result ≤ l.depth → (l.sum + own_by sizes 5 c.word_at-w.result ≡ before_by rk sizes left) × (l.depth - rk c.word_at-w.result + 1 ≡ depth_of rk 0 left))
+passed-word c =
+    let a = c.args in
+    let l = c.loop-i in
+    let rk = rank_of (ranks_in a.r a.table.now) in (
+      λ h. word_over a.file.now a.at a.place c.requires.0 l.i c.word_at-w.result (omega arith) (omega arith) c.word_at-w.ensures rk a.sizes.now l.depth l.sum l.invariant.1 l.invariant.2 h,
+      λ h. word_beside a.file.now a.at a.place c.requires.0 l.i c.word_at-w.result (omega arith) (omega arith) c.word_at-w.ensures rk a.sizes.now l.depth l.sum l.invariant.1 l.invariant.2 h,
+    )
+
+pub own-sum-requires : goal.own-sum-requires
+own-sum-requires c =
+    let k = rank_small c.args.r c.args.table.now c.requires.5 c.word_at-w.result in
+    (omega (arith, c.requires), omega (arith, c.rank_of-rank.ensures), c.requires.3)
+
+pub loop-i-preserved-then-depth-rank : goal.loop-i-preserved-then-depth-rank
+loop-i-preserved-then-depth-rank c =
+    let m = (passed-word (goal.at.loop-i-preserved-then-depth-rank c).After-rank_of-rank).0 (omega arith) in
+    (omega arith, omega arith, omega arith, omega arith, omega arith)
+
+pub loop-i-preserved : goal.loop-i-preserved
+loop-i-preserved c =
+    let m = (passed-word (goal.at.loop-i-preserved c).After-rank_of-rank).1 (omega arith) in
+    (omega arith, omega arith, omega arith, omega arith, omega arith)

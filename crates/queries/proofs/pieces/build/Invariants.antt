@@ -1,0 +1,14 @@
+-- `queries::pieces::build` meets its contract: rule by rule.
+use Prim.Native.Nat.{ℕ, ◌-◌, ◌≤◌}
+use native.Mathlib.Omega.{arith}
+use mathlib.Core.Path.{◌≡◌, refl, sym, subst, ◌∙◌}
+use lib.ListN.{length}
+use Rattle.queries.specs.Building.{Spelt}
+use Rattle.queries.proofs.SpellFile.{one_more}
+use Rattle.queries.proofs.pieces.build.Given as goal
+
+abbrev pub invariant-loop-r : goal.invariant-loop-r
+invariant-loop-r l = Spelt l.file l.n l.r l.table l.sizes l.pieces l.starts l.top × (l.r ≤ l.n) × (length l.opens ≡ length l.initial.opens)
+
+abbrev pub decreases-loop-r : goal.decreases-loop-r
+decreases-loop-r l = l.n - l.r
