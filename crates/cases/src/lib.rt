@@ -4,6 +4,8 @@
 //   kind 2   a case of the checker and the counter; kind 3, of the label query; kind 4, of the window expander. The payload: position (64 bits),
 //            the answer's number and place (16 bits each), its N or word (64 bits), its window's words (16 bits each)
 // tools/cases makes them.
+#![tactic(auto)]
+
 pub mod answers;
 pub mod progress;
 pub mod records;

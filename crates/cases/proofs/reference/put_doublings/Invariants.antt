@@ -1,0 +1,16 @@
+-- `cases::reference::put_doublings` meets its contract: after j turns j rules are put, 14 bytes each.
+use Prim.Native.Nat.{◌+◌, ◌-◌, ◌*◌, ◌≤◌}
+use mathlib.Core.Path.{◌≡◌, refl, sym, ap}
+use native.Mathlib.Numerals.{add-one}
+use native.Mathlib.Omega.{arith}
+use lib.ListN.{length}
+use Rattle.text.specs.Lines.{Put}
+use Rattle.text.proofs.Putting.{put_then, put_as}
+use Rattle.cases.specs.Reference.{doublings, rules_one_to39}
+use Rattle.cases.proofs.reference.put_doublings.Given as goal
+
+abbrev pub invariant-loop-j : goal.invariant-loop-j
+invariant-loop-j l = (l.j ≤ 39) × Put (doublings l.j) l.initial.out l.at l.out l.end × (l.end ≡ l.at + 14 * l.j) × (length l.out ≡ length l.initial.out)
+
+abbrev pub decreases-loop-j : goal.decreases-loop-j
+decreases-loop-j l = 39 - l.j
