@@ -1,0 +1,16 @@
+-- `ask::question::window_of` meets its contract: the name, then the position and the length.
+use mathlib.Core.Path.{sym, ap, ◌∙◌}
+use mathlib.Core.Option.{Option, some}
+use Prim.Native.Nat.{ℕ}
+use borrow.Author.Tests.{not-true, not-false}
+use Rattle.text.specs.Numbers.{number_in, number_is}
+use Rattle.text.specs.Operations.{window_name}
+use Rattle.ask.specs.Question.{window_at}
+use Rattle.ask.proofs.Asking.{same_is, not_window, is_window}
+use borrow.Author.Rules.{rules}
+use Rattle.ask.proofs.question.window_of.Goals as goal
+
+pub returns-then-not-same : goal.returns-then-not-same
+returns-then-not-same c =
+    let a = c.args in
+    not_window a.name.now a.first.now a.second.now (sym (same_is _ a.name.now window_name c.same.ensures) ∙ c.if-not-same.true)
