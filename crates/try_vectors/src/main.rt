@@ -1,5 +1,7 @@
 // Runs the checker, the node counter, the label query and the window expander over the cases in its data, and over document 01's H and H', which it
 // builds. Prints a line for each wrong case, and a summary for each data file.
+#![tactic(auto)]
+
 ghost use Rattle.std.specs.Prelude.{◌+◌, ◌≤◌, ◌<◌, ◌-◌, ◌/◌, ◌≡◌, true, ◌↔◌, length};
 ghost use Rattle.try_vectors.specs.Right.{CheckRight, LabelRight, WindowRight, Right};
 ghost use Rattle.try_vectors.specs.Running.{Turned, RanOut};
@@ -10,40 +12,56 @@ use cases::records::{asked, words_are};
 use cases::reference::put_doubled;
 use cases::reports::{put_summary, put_wrong};
 use grammar::answers::{check, count};
-use libc::STDOUT_FILENO;
 use queries::label::label;
 use queries::window::window;
+use std::fs::File;
+use std::os::fd::AsRawFd;
+use std::rt::Files;
 
-fn main() {
+const STDOUT: i32 = 1;
+
+fn main(rt: HostRuntime) {
     let mut space = [0u8; 16400];
     let file: &mut [u8] = &mut space;
-    over(b"checks", file, 0);
-    over(b"own_checks", file, 0);
-    over(b"queries", file, 0);
-    over(b"own_queries", file, 0);
-    over_doubled(38, b"H_checks", b"H_queries", file);
-    over_doubled(39, b"H_prime_checks", b"H_prime_queries", file);
+    over(&rt, "checks", file, 0);
+    over(&rt, "own_checks", file, 0);
+    over(&rt, "queries", file, 0);
+    over(&rt, "own_queries", file, 0);
+    over_doubled(&rt, 38, "H_checks", "H_queries", file);
+    over_doubled(&rt, 39, "H_prime_checks", "H_prime_queries", file);
 }
 
 // H or H', by the rule that its start calls.
-fn over_doubled(called: u8, checks: &[u8], queries: &[u8], file: &mut [u8])
+fn over_doubled<R: Files>(rt: &R, called: u8, checks: &str, queries: &str, file: &mut [u8])
+where
+    R::File: AsRawFd,
     requires { (582 ≤ length file.old) × (length checks.now ≤ 64) × (length queries.now ≤ 64) }
 {
     let n = put_doubled(called, file);
-    over(checks, file, n);
-    over(queries, file, n);
+    over(rt, checks, file, n);
+    over(rt, queries, file, n);
 }
 
-// The cases of one data file. `ready` bytes of a file stand ready for cases that come before any other file.
-fn over(name: &[u8], file: &mut [u8], ready: usize)
+// The cases of one data file. `ready` bytes of a file stand ready for cases that come before any other file. Data that can't be opened has no case.
+fn over<R: Files>(rt: &R, name: &str, file: &mut [u8], ready: usize)
+where
+    R::File: AsRawFd,
     requires { (ready ≤ length file.old) × (length name.now ≤ 64) }
 {
-    let fd = os::open_read(name);
+    match File::open(rt, name) {
+        Ok(data) => report(name.as_bytes(), data.as_raw_fd(), file, ready),
+        Err(_) => report(name.as_bytes(), -1, file, ready),
+    }
+}
+
+// Runs over the cases, and prints how many there were.
+fn report(name: &[u8], fd: i32, file: &mut [u8], ready: usize)
+    requires { (ready ≤ length file.old) × (length name.now ≤ 64) }
+{
     let p = run(name, fd, file, ready);
-    libc::close(fd);
     let mut line = [0u8; 128];
     let n = put_summary(name, p.cases, p.wrong, &mut line);
-    io::write_all(STDOUT_FILENO, &line[..n]);
+    io::write_all(STDOUT, &line[..n]);
 }
 
 // One case after the other, up to a number that no data reaches.
@@ -90,7 +108,7 @@ fn print_wrong(name: &[u8], case: u64)
 {
     let mut line = [0u8; 128];
     let n = put_wrong(name, case, &mut line);
-    io::write_all(STDOUT_FILENO, &line[..n]);
+    io::write_all(STDOUT, &line[..n]);
 }
 
 // By the case's kind.
