@@ -20,6 +20,7 @@ use std::env::FillError;
 use std::rt::Env;
 
 const STDIN: i32 = 0;
+
 const STDOUT: i32 = 1;
 
 fn main(rt: HostRuntime) {

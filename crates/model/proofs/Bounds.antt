@@ -2,18 +2,18 @@
 -- whole file would be too large to compute. Starred tells what is refused how; this tells from where on.
 use Prim.Native.Nat.{ℕ, zero, suc, ◌+◌, ◌-◌, ◌^◌}
 use mathlib.Core.Path.{◌≡◌, refl}
-use mathlib.Core.Bool.{Bool, true, false, cond}
+use mathlib.Core.Bool.{Bool, false, cond}
 use mathlib.Core.List.{List, [], ◌∷◌, ◌++◌, map}
 use mathlib.Core.Option.{Option, none, some}
 use lib.Dec.{leb, eqb}
 use lib.ListN.{get_or, replicate}
 use Rattle.model.specs.Bounds.{is_huge, longest_fragment, longest_tree}
 use Rattle.model.specs.Words.{class_of}
-use Rattle.model.specs.Trees.{Rule, is_legal}
+use Rattle.model.specs.Trees.{is_legal}
 use Rattle.model.specs.Refusals.{Refusal, number_of, place_of, every_refusal, first_of}
 use Rattle.model.specs.File.{bytes_of, word_bytes, record_of, head_refusals, rule_refusals, read}
-use Rattle.model.specs.Edits.{Update, rename}
-use Rattle.model.specs.Rounds.{Digram, eligible, repacked}
+use Rattle.model.specs.Edits.{rename}
+use Rattle.model.specs.Rounds.{eligible, repacked}
 use Rattle.model.specs.Answers.{checked, label_allowed, update_refusals, left_refusals, file_refusals, pack_refusals, update, pack}
 use Rattle.model.specs.Program.{request_allowed, program}
 

@@ -1,5 +1,5 @@
 -- Document 01, "Refusal numbers" and "How the updated file is made": the whole answer of every operation, with the final content of every lent slice.
-use Rattle.std.specs.Prelude.{ℕ, suc, ◌+◌, ◌-◌, Bool, true, false, not, ◌&&◌, List, [], ◌∷◌, ◌++◌, leb, ltb, eqb, length, take, drop, get_or, replicate}
+use Rattle.std.specs.Prelude.{ℕ, ◌+◌, ◌-◌, Bool, true, false, not, ◌&&◌, List, [], ◌∷◌, ◌++◌, leb, ltb, eqb, length, take, drop, get_or, replicate}
 use Rattle.std.proofs.Math.Option.{Option, none, some}
 use Rattle.model.specs.Bounds.{is_huge, largest_file, longest_fragment, longest_tree, least_work, no_word, no_byte}
 use Rattle.model.specs.Words.{is_label}

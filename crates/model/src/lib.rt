@@ -8,3 +8,4 @@
 //   Opening, Dropping, Rounds   how the updated file is made
 //   Answers, Program  every operation's whole answer; the program's output
 // Read Answers first: it names the rest. proofs/Starred has the reference table as one theorem, proofs/Bounds a row on both sides of each bound.
+#![tactic(auto)]

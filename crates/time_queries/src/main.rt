@@ -21,6 +21,7 @@ use std::rt::Env;
 use task::{Task, parse};
 
 const STDIN: i32 = 0;
+
 const STDOUT: i32 = 1;
 
 fn main(rt: HostRuntime) {

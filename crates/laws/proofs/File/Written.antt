@@ -16,7 +16,7 @@ use Rattle.model.specs.Words.{empty, label, parameter, call, illegal, class_of, 
 use Rattle.model.specs.Trees.{Rule, all, is_legal, obeys, ranks_of, expansions, nodes, is_legal_as}
 use Rattle.model.specs.Refusals.{Refusal, HEAD, RANK, SYMBOL, BODY, LARGE, HUGE, EMPTY, taken, refused, first_of}
 use Rattle.model.specs.File.{bytes_of, number_in, words_in, word_bytes, payload_length, kind_in, payload_in, after_record, is_even, record_refusals, rule_count, head_refusals, rule_in, rule_refusals, read_whole, read_rules, read, record_of, rule_records, write}
-use Rattle.laws.specs.Conditions.{NoneHolds, at}
+use Rattle.laws.specs.Conditions.{NoneHolds}
 use Rattle.laws.specs.Formed.{formed_on, start_rank}
 use Rattle.laws.proofs.Answers.Conditions.{none_holds_append, first_of_none}
 use Rattle.laws.proofs.Trees.Grammar.{Taken, formed_cons, RuleOn, ranks_append, length_expansions_on}

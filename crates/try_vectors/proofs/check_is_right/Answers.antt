@@ -2,8 +2,7 @@
 use Rattle.std.specs.Prelude.{not}
 use mathlib.Core.Path.{ap}
 use Rattle.model.specs.Answers.{CountAnswer}
-use Rattle.try_vectors.proofs.Judging.{answer_tells, not_checked, not_counted, counted_too}
-use borrow.Author.Rules.{rules}
+use Rattle.try_vectors.proofs.Judging.{answer_tells, counted_too}
 use Rattle.try_vectors.proofs.check_is_right.Goals as goal
 
 pub returns : goal.returns

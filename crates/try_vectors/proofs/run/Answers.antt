@@ -1,11 +1,9 @@
 -- `run` meets its contract and ends: the file stays within its buffer, and no turn counts more than one case.
-use Prim.Native.Nat.{suc, ◌-◌, ◌≤◌}
+use Prim.Native.Nat.{suc}
 use mathlib.Core.Path.{◌≡◌, refl, sym, subst}
-use mathlib.Core.Logic.{inl, inr}
+use mathlib.Core.Logic.{inl}
 use native.Mathlib.Numerals.{add-one}
 use native.Mathlib.Omega.{arith}
-use borrow.Author.Tests.{not-true}
-use borrow.Author.Rules.{rules}
 use lib.ListN.{length}
 use Rattle.cases.specs.declared.progress.Progress.{Progress}
 use Rattle.try_vectors.proofs.Turning.{turned_counts}

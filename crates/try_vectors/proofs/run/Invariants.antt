@@ -1,15 +1,8 @@
 -- `run` meets its contract and ends: the file stays within its buffer, and no turn counts more than one case.
-use Prim.Native.Nat.{suc, ◌-◌, ◌≤◌}
-use mathlib.Core.Path.{◌≡◌, refl, sym, subst}
-use mathlib.Core.Logic.{inl, inr}
-use native.Mathlib.Numerals.{add-one}
-use native.Mathlib.Omega.{arith}
-use borrow.Author.Tests.{not-true}
-use borrow.Author.Rules.{rules}
+use Prim.Native.Nat.{◌-◌, ◌≤◌}
+use mathlib.Core.Path.{◌≡◌}
 use lib.ListN.{length}
-use Rattle.cases.specs.declared.progress.Progress.{Progress}
-use Rattle.try_vectors.proofs.Turning.{turned_counts}
-use Rattle.try_vectors.specs.Running.{Ran, not_yet, further}
+use Rattle.try_vectors.specs.Running.{Ran}
 use Rattle.try_vectors.proofs.run.Given as goal
 
 abbrev pub invariant-loop-turns : goal.invariant-loop-turns

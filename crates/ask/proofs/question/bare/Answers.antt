@@ -1,8 +1,7 @@
 -- `ask::question::bare` meets its contract: the names are compared as the model compares lists.
 use mathlib.Core.Path.{sym, ◌∙◌}
 use Rattle.text.specs.Operations.{check_name, count_name}
-use Rattle.ask.proofs.Asking.{same_is, bare_check, bare_count, bare_wrong}
-use borrow.Author.Rules.{rules}
+use Rattle.ask.proofs.Asking.{same_is, bare_wrong}
 use Rattle.ask.proofs.question.bare.Goals as goal
 
 pub returns : goal.returns

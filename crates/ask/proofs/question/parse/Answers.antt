@@ -1,7 +1,6 @@
 -- `ask::question::parse` meets its contract: by the number of arguments.
 use mathlib.Core.Path.{◌∙◌}
 use Rattle.ask.proofs.Asking.{two_arguments, three_arguments, four_arguments, other_arguments, as_asked}
-use borrow.Author.Rules.{rules}
 use Rattle.ask.proofs.question.parse.Goals as goal
 
 pub returns-then-arguments-eq2 : goal.returns-then-arguments-eq2

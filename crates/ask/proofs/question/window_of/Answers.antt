@@ -1,13 +1,7 @@
 -- `ask::question::window_of` meets its contract: the name, then the position and the length.
-use mathlib.Core.Path.{sym, ap, ◌∙◌}
-use mathlib.Core.Option.{Option, some}
-use Prim.Native.Nat.{ℕ}
-use borrow.Author.Tests.{not-true, not-false}
-use Rattle.text.specs.Numbers.{number_in, number_is}
+use mathlib.Core.Path.{sym, ◌∙◌}
 use Rattle.text.specs.Operations.{window_name}
-use Rattle.ask.specs.Question.{window_at}
-use Rattle.ask.proofs.Asking.{same_is, not_window, is_window}
-use borrow.Author.Rules.{rules}
+use Rattle.ask.proofs.Asking.{same_is, not_window}
 use Rattle.ask.proofs.question.window_of.Goals as goal
 
 pub returns-then-not-same : goal.returns-then-not-same

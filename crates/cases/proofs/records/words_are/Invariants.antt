@@ -1,8 +1,6 @@
 -- `cases::records::words_are` meets its contract: the words passed are the same.
 use Prim.Native.Nat.{ℕ, ◌+◌, ◌-◌, ◌*◌, ◌≤◌, ◌<◌}
-use mathlib.Core.Path.{◌≡◌, refl, sym, ◌∙◌}
-use native.Mathlib.Omega.{arith}
-use borrow.Author.Count.{below_none, below_more}
+use mathlib.Core.Path.{◌≡◌}
 use lib.ListN.{length, get_or}
 use Rattle.grammar.specs.Meaning.{word_in}
 use Rattle.cases.proofs.records.words_are.Given as goal

@@ -1,10 +1,7 @@
 -- `cases::reference::put_doublings` meets its contract: after j turns j rules are put, 14 bytes each.
-use Prim.Native.Nat.{◌+◌, ◌-◌, ◌*◌, ◌≤◌}
-use mathlib.Core.Path.{◌≡◌, refl, sym, ap}
+use mathlib.Core.Path.{◌≡◌, sym, ap}
 use native.Mathlib.Numerals.{add-one}
 use native.Mathlib.Omega.{arith}
-use lib.ListN.{length}
-use Rattle.text.specs.Lines.{Put}
 use Rattle.text.proofs.Putting.{put_then, put_as}
 use Rattle.cases.specs.Reference.{doublings, rules_one_to39}
 use Rattle.cases.proofs.reference.put_doublings.Goals as goal

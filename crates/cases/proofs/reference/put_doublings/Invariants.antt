@@ -1,12 +1,9 @@
 -- `cases::reference::put_doublings` meets its contract: after j turns j rules are put, 14 bytes each.
 use Prim.Native.Nat.{◌+◌, ◌-◌, ◌*◌, ◌≤◌}
-use mathlib.Core.Path.{◌≡◌, refl, sym, ap}
-use native.Mathlib.Numerals.{add-one}
-use native.Mathlib.Omega.{arith}
+use mathlib.Core.Path.{◌≡◌}
 use lib.ListN.{length}
 use Rattle.text.specs.Lines.{Put}
-use Rattle.text.proofs.Putting.{put_then, put_as}
-use Rattle.cases.specs.Reference.{doublings, rules_one_to39}
+use Rattle.cases.specs.Reference.{doublings}
 use Rattle.cases.proofs.reference.put_doublings.Given as goal
 
 abbrev pub invariant-loop-j : goal.invariant-loop-j

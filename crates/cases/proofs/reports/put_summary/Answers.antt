@@ -2,7 +2,6 @@
 use native.Mathlib.Omega.{arith}
 use Rattle.io.proofs.Counting.{prefix_len_of_le}
 use Rattle.text.proofs.Putting.{put_then}
-use borrow.Author.Rules.{rules}
 use Rattle.cases.proofs.reports.put_summary.Goals as goal
 
 pub returns : goal.returns

@@ -1,10 +1,8 @@
 -- `queries::pieces::build` meets its contract: rule by rule.
-use Prim.Native.Nat.{ℕ, ◌-◌, ◌≤◌}
-use native.Mathlib.Omega.{arith}
-use mathlib.Core.Path.{◌≡◌, refl, sym, subst, ◌∙◌}
+use Prim.Native.Nat.{◌-◌, ◌≤◌}
+use mathlib.Core.Path.{◌≡◌}
 use lib.ListN.{length}
 use Rattle.queries.specs.Building.{Spelt}
-use Rattle.queries.proofs.SpellFile.{one_more}
 use Rattle.queries.proofs.pieces.build.Given as goal
 
 abbrev pub invariant-loop-r : goal.invariant-loop-r

@@ -1,9 +1,7 @@
 -- `queries::pieces::close` meets its contract: gap by gap of the open words.
 use native.Mathlib.Omega.{arith}
 use mathlib.Core.Path.{◌∙◌}
-use lib.ListN.{length-set}
-use Rattle.queries.specs.Pieces.{Closes}
-use Rattle.queries.proofs.Closing.{Now, closes_start, closes_over, turn_there, turn_low, turn_fits, turn_length, turn_again, turn_ends}
+use Rattle.queries.proofs.Closing.{turn_fits, turn_again, turn_ends}
 use Rattle.queries.proofs.pieces.close.Goals as goal
 
 pub put-t-requires : goal.put-t-requires

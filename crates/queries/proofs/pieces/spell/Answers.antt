@@ -1,11 +1,8 @@
 -- `queries::pieces::spell` meets its contract: word by word, by the turns over the rule's body.
-use borrow.Author.Rules.{rules}
-use Prim.Native.Nat.{◌+◌, ◌*◌, ◌-◌, ◌≤◌, ◌<◌}
+use Prim.Native.Nat.{◌+◌, ◌*◌, ◌≤◌, ◌<◌}
 use native.Mathlib.Omega.{arith}
-use mathlib.Core.Path.{refl, sym, ◌∙◌}
-use lib.ListN.{length, length-set}
-use Rattle.grammar.proofs.Denoted.{entry_inside}
-use Rattle.queries.proofs.SpellFile.{Body, body_next, RuleTurn, place_fits, first_turn, word_fits, gap_fits, open_fits, rank_small, entry_small, close_asks, next_turn, stop_fits, rule_over}
+use mathlib.Core.Path.{refl}
+use Rattle.queries.proofs.SpellFile.{body_next, place_fits, first_turn, word_fits, gap_fits, open_fits, rank_small, entry_small, close_asks, next_turn, stop_fits, rule_over}
 use Rattle.queries.proofs.pieces.spell.Goals.{After-first_gap, After-rank_of-k}
 use Rattle.queries.proofs.pieces.spell.Goals as goal
 
@@ -65,8 +62,7 @@ close-closed-requires c =
 
 pub loop-i-preserved : goal.loop-i-preserved
 loop-i-preserved c =
-    let x = c.loop-i.invariant in
-    (
+    let x = c.loop-i.invariant in (
       x.0,
       next_turn x.0 x.1 (omega arith) c.word_at-w.result c.word_at-w.ensures c.rank_of-k.result c.rank_of-k.ensures c.first_gap.result c.first_gap.ensures _ _ c.put_own-next.result.top c.put_own-next.result.gap
           c.put_own-next.ensures.top_value.0 c.put_own-next.ensures.top_value.1 c.put_own-next.ensures.pieces_after c.put_own-next.ensures.starts_after _ _ _ _ c.close-closed.ensures,

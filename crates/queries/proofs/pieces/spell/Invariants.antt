@@ -1,11 +1,7 @@
 -- `queries::pieces::spell` meets its contract: word by word, by the turns over the rule's body.
-use borrow.Author.Rules.{rules}
-use Prim.Native.Nat.{◌+◌, ◌*◌, ◌-◌, ◌≤◌, ◌<◌}
-use native.Mathlib.Omega.{arith}
-use mathlib.Core.Path.{refl, sym, ◌∙◌}
-use lib.ListN.{length, length-set}
-use Rattle.grammar.proofs.Denoted.{entry_inside}
-use Rattle.queries.proofs.SpellFile.{Body, body_next, RuleTurn, place_fits, first_turn, word_fits, gap_fits, open_fits, rank_small, entry_small, close_asks, next_turn, stop_fits, rule_over}
+use Prim.Native.Nat.{◌-◌}
+use lib.ListN.{length}
+use Rattle.queries.proofs.SpellFile.{Body, RuleTurn}
 use Rattle.queries.proofs.pieces.spell.Given as goal
 
 abbrev pub invariant-loop-i : goal.invariant-loop-i

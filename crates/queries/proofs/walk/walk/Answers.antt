@@ -1,10 +1,9 @@
 -- `queries::walk::walk` meets its contract: piece by piece, for every reading of the pieces. What is left to walk falls.
 use native.Mathlib.Omega.{arith}
-use Prim.Native.Nat.{◌<◌, ◌*◌, ◌-◌}
+use Prim.Native.Nat.{◌<◌}
 use mathlib.Core.Path.{refl}
-use lib.ListN.{length, get_or}
-use Rattle.queries.proofs.Walking.{walk_cost}
-use Rattle.queries.proofs.WalkTurns.{Walk, walk_start, turn_place, turn_word, turn_past, turn_deep, turn_pop, turn_gap, turn_over, turn_into, less_on, less_pop, less_into, walk_end}
+use lib.ListN.{length}
+use Rattle.queries.proofs.WalkTurns.{walk_start, turn_word, turn_past, turn_deep, turn_pop, turn_gap, turn_over, turn_into, less_on, less_pop, less_into}
 use Rattle.queries.proofs.walk.walk.Goals as goal
 
 pub loop-o-init : goal.loop-o-init

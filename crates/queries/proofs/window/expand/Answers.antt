@@ -1,5 +1,4 @@
 -- `queries::window::expand` meets its contract: the words of the start rule's gap, which has no parameters, are the tree.
-use borrow.Author.Rules.{rules}
 use native.Mathlib.Omega.{arith}
 use mathlib.Core.Path.{refl}
 use Rattle.queries.proofs.Windows.{nothing_spelt, walkable, window_words}

@@ -9,7 +9,6 @@ use Rattle.grammar.proofs.Denoted.{nodes_counted}
 use Rattle.queries.specs.Building.{rules_of}
 use Rattle.queries.proofs.HeldRules.{named}
 use Rattle.queries.proofs.Windows.{answer_refused, answer_outside, answer_inside}
-use borrow.Author.Rules.{rules}
 use Rattle.queries.proofs.window.window.Goals.{After-first_gaps-nodes, In-Taken}
 use Rattle.queries.proofs.window.window.Goals as goal
 

@@ -5,7 +5,6 @@ use Rattle.grammar.specs.Meaning.{refusal_is}
 use Rattle.text.specs.Numbers.{decimal}
 use Rattle.text.proofs.Putting.{put_then, put_as}
 use Rattle.text.proofs.Names.{named}
-use borrow.Author.Rules.{rules}
 use Rattle.text.proofs.answers.put_refusal.Goals as goal
 
 pub returns : goal.returns

@@ -1,10 +1,9 @@
 -- `text::lines::put` meets its contract: after i turns the first i bytes are put.
-use Prim.Native.Nat.{ℕ, ◌+◌, ◌-◌, ◌≤◌}
+use Prim.Native.Nat.{ℕ, ◌+◌}
 use mathlib.Core.List.{List}
-use mathlib.Core.Path.{◌≡◌, refl, ap, ◌∙◌}
+use mathlib.Core.Path.{ap, ◌∙◌}
 use native.Mathlib.Omega.{arith}
-use lib.ListN.{length, take, get_or, set, length-set}
-use lib.Seq.{sets, take-length}
+use lib.ListN.{get_or, set, length-set}
 use Rattle.text.proofs.Putting.{put_more}
 use Rattle.text.proofs.lines.put.Goals as goal
 

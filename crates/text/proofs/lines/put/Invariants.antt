@@ -1,11 +1,8 @@
 -- `text::lines::put` meets its contract: after i turns the first i bytes are put.
-use Prim.Native.Nat.{ℕ, ◌+◌, ◌-◌, ◌≤◌}
-use mathlib.Core.List.{List}
-use mathlib.Core.Path.{◌≡◌, refl, ap, ◌∙◌}
-use native.Mathlib.Omega.{arith}
-use lib.ListN.{length, take, get_or, set, length-set}
-use lib.Seq.{sets, take-length}
-use Rattle.text.proofs.Putting.{put_more}
+use Prim.Native.Nat.{◌-◌, ◌≤◌}
+use mathlib.Core.Path.{◌≡◌}
+use lib.ListN.{length, take}
+use lib.Seq.{sets}
 use Rattle.text.proofs.lines.put.Given as goal
 
 abbrev pub invariant-loop-i : goal.invariant-loop-i

@@ -1,11 +1,9 @@
 -- `text::numbers::put_words` meets its contract: after i turns the first i words are put, five bytes each.
 use Prim.Native.Nat.{◌+◌, ◌-◌, ◌*◌, ◌≤◌}
-use mathlib.Core.Path.{◌≡◌, refl, ap}
-use native.Mathlib.Omega.{arith}
-use lib.ListN.{length, length-set}
+use mathlib.Core.Path.{◌≡◌}
+use lib.ListN.{length}
 use Rattle.text.specs.Lines.{Put}
 use Rattle.text.specs.Numbers.{words_to}
-use Rattle.text.proofs.Putting.{put_as, put_one_word}
 use Rattle.text.proofs.numbers.put_words.Given as goal
 
 abbrev pub invariant-loop-i : goal.invariant-loop-i

@@ -1,11 +1,8 @@
 -- `text::numbers::read_decimal` meets its contract: after i turns the number of the first i digits is left with the other digits to come.
 use Prim.Native.Nat.{◌-◌, ◌≤◌}
-use mathlib.Core.Path.{◌≡◌, sym, ap, ◌∙◌}
-use native.Mathlib.Omega.{arith}
+use mathlib.Core.Path.{◌≡◌}
 use lib.ListN.{length, drop}
-use Rattle.text.specs.Numbers.{number_in, number_is, with_digits}
-use Rattle.text.proofs.ReadingDigits.{no_digits, some_digits, digit_taken, digit_refused, digits_ended}
-use borrow.Author.Rules.{rules}
+use Rattle.text.specs.Numbers.{number_in, with_digits}
 use Rattle.text.proofs.numbers.read_decimal.Given as goal
 
 abbrev pub invariant-loop-i : goal.invariant-loop-i

@@ -1,7 +1,6 @@
 -- `text::numbers::with_digit` meets its contract, case by case.
 use native.Mathlib.Omega.{arith}
 use Rattle.text.proofs.ReadingDigits.{below_digits, above_digits, too_large, one_more}
-use borrow.Author.Rules.{rules}
 use Rattle.text.proofs.numbers.with_digit.Goals as goal
 
 pub returns-then-b-lt48 : goal.returns-then-b-lt48

@@ -1,9 +1,7 @@
 -- `run_labels` meets its contract: after i turns, what is kept of i calls.
-use Rattle.std.proofs.Common.{◌≡◌, ◌-◌, ◌≤◌, refl, ap, ◌∙◌, arith, rules}
-use Rattle.time_queries.specs.declared.tallies.Tally.{Tally}
+use Rattle.std.proofs.Common.{◌≡◌, ◌-◌, ◌≤◌}
 use Rattle.time_queries.specs.Inputs.{start_at}
 use Rattle.time_queries.specs.Runs.{labels}
-use Rattle.time_queries.proofs.Turns.{one_start, one_label}
 use Rattle.time_queries.proofs.runs.run_labels.Given as goal
 
 abbrev pub invariant-loop-i : goal.invariant-loop-i

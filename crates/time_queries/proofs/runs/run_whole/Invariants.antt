@@ -1,9 +1,7 @@
 -- `run_whole` meets its contract: after i turns, what is kept of i calls.
-use Rattle.std.proofs.Common.{◌≡◌, ◌-◌, ◌≤◌, length, refl, ap, ◌∙◌, arith, rules}
-use Rattle.time_queries.specs.declared.tallies.Tally.{Tally}
+use Rattle.std.proofs.Common.{◌≡◌, ◌-◌, ◌≤◌, length}
 use Rattle.time_queries.specs.Inputs.{varied}
 use Rattle.time_queries.specs.Runs.{wholes}
-use Rattle.time_queries.proofs.Turns.{one_flip, one_whole}
 use Rattle.time_queries.proofs.runs.run_whole.Given as goal
 
 abbrev pub invariant-loop-i : goal.invariant-loop-i

@@ -1,11 +1,7 @@
 -- `windows_into` meets its contract: after i turns, what is kept of i calls.
-use Rattle.std.proofs.Common.{◌≡◌, ℕ, ◌-◌, ◌≤◌, length, refl, ap, ◌∙◌, arith, rules}
-use Rattle.model.specs.Answers.{window_at}
-use Rattle.time_queries.specs.Tallies.{tallied}
-use Rattle.time_queries.specs.declared.tallies.Tally.{Tally}
+use Rattle.std.proofs.Common.{◌≡◌, ◌-◌, ◌≤◌, length}
 use Rattle.time_queries.specs.Inputs.{start_at}
 use Rattle.time_queries.specs.Runs.{windows_of}
-use Rattle.time_queries.proofs.Turns.{one_start, one_window}
 use Rattle.time_queries.proofs.runs.windows_into.Given as goal
 
 abbrev pub invariant-loop-i : goal.invariant-loop-i

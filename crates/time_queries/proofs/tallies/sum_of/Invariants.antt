@@ -1,6 +1,5 @@
 -- `sum_of` meets its contract: the words from i on are added up.
-use Rattle.std.proofs.Common.{◌≡◌, ℕ, suc, ◌+◌, ◌-◌, ◌*◌, ◌≤◌, length, get_or, drop, sym, ap, ◌∙◌, arith, drop-cons}
-use lib.Seq.{drop-length}
+use Rattle.std.proofs.Common.{◌≡◌, ◌-◌, ◌*◌, ◌≤◌, length, drop}
 use Rattle.time_queries.specs.Tallies.{sum}
 use Rattle.time_queries.proofs.tallies.sum_of.Given as goal
 
