@@ -11,6 +11,7 @@ use Rattle.grammar.proofs.Denoted.{nodes_counted}
 use Rattle.grammar.proofs.answers.count.Goals.{In-Taken}
 use Rattle.grammar.proofs.answers.count.Goals as goal
 
+-- a file that is taken denotes a grammar
 denoted : (c : In-Taken)
     → Denotes c.args.file.now c.in-Taken.n c.read-r.new.table c.read-r.new.sizes
 denoted c =

@@ -25,9 +25,8 @@ loop-c-init c =
     )
 
 -- the cursor stands before a word while a tree is due
-
-before-word : (c : In-loop-c) → c.loop-c.c.at < c.args.words
-before-word c =
+before_word : (c : In-loop-c) → c.loop-c.c.at < c.args.words
+before_word c =
     let a = c.args in
     let l = c.loop-c in
     let ranks = ranks_in a.r a.table.now in
@@ -37,7 +36,7 @@ before-word c =
 
 pub word_at-requires : goal.word_at-requires
 word_at-requires c =
-    omega (arith, before-word (goal.at.word_at-requires c).In-loop-c)
+    omega (arith, before_word (goal.at.word_at-requires c).In-loop-c)
 
 pub step-c-requires : goal.step-c-requires
 step-c-requires c =
@@ -45,7 +44,7 @@ step-c-requires c =
 
 pub loop-c-smaller : goal.loop-c-smaller
 loop-c-smaller c =
-    omega (arith, before-word (goal.at.loop-c-smaller c).In-loop-c)
+    omega (arith, before_word (goal.at.loop-c-smaller c).In-loop-c)
 
 pub loop-c-preserved : goal.loop-c-preserved
 loop-c-preserved c =
@@ -53,7 +52,7 @@ loop-c-preserved c =
     let l = c.loop-c in
     let ranks = ranks_in a.r a.table.now in
     let body = body_in a.file.now a.at a.words in
-    let inside : l.c.at < a.words = before-word (goal.at.loop-c-preserved c).In-loop-c in (
+    let inside : l.c.at < a.words = before_word (goal.at.loop-c-preserved c).In-loop-c in (
       omega arith,
       omega (arith, c.rank_of-rank.ensures, rank_small a.r a.table.now c.requires.3 c.word_at.result),
       due_next ranks body c.requires.5 (a.i + length (subtree ranks a.i body)) l.c.at l.c.due c.word_at.result l.invariant.2

@@ -14,6 +14,7 @@ use Rattle.grammar.proofs.WholeRead.{Filled, filled, huge_there}
 use Rattle.grammar.proofs.read.whole.Goals.{In-Fits, In-Huge}
 use Rattle.grammar.proofs.read.whole.Goals as goal
 
+-- a rule that is too large
 huge : (c : In-Huge)
     → (lowest_huge 0 (expansions (written_rules c.args.file.now)) ≡ some c.in-Huge.r) × (c.in-Huge.r < 256)
     × (length c.measure.new.sizes ≡ length c.args.sizes.now)
@@ -23,7 +24,6 @@ huge c =
     c.in-Huge.r c.in-Huge.is
 
 -- every rule fits
-
 fit : (c : In-Fits)
     → Filled (written_rules c.args.file.now) c.args.n c.args.sizes.now c.measure.new.sizes
 fit c =

@@ -27,6 +27,7 @@ returns-in-Refused c =
       same_size a.file.now a.n a.table.now l.table l.at l.r _ l.invariant (omega arith),
     )
 
+-- the rule that stands at the place
 found : (c : In-Rule)
     → let a = c.args in
     let l = c.loop-r in

@@ -23,7 +23,8 @@ loop-i-init c =
       omega arith,
     )
 
-passed-word : (c : After-rank_of-rank)
+-- what the word read adds, and the trees before the place that it leaves: it stands over the place, or it does not
+passed_word : (c : After-rank_of-rank)
     → let a = c.args in
     let l = c.loop-i in
     let rk = rank_of (ranks_in a.r a.table.now) in
@@ -31,7 +32,7 @@ passed-word : (c : After-rank_of-rank)
     let left = drop (l.i - 1) (body_in a.file.now a.at a.place) in
     (l.depth < rk c.word_at-w.result → (l.sum + own_by sizes (l.depth + 1) c.word_at-w.result ≡ before_by rk sizes left) × (0 ≡ depth_of rk 0 left))
     × (rk c.word_at-w.result ≤ l.depth → (l.sum + own_by sizes 5 c.word_at-w.result ≡ before_by rk sizes left) × (l.depth - rk c.word_at-w.result + 1 ≡ depth_of rk 0 left))
-passed-word c =
+passed_word c =
     let a = c.args in
     let l = c.loop-i in
     let rk = rank_of (ranks_in a.r a.table.now) in (
@@ -46,10 +47,10 @@ own-sum-requires c =
 
 pub loop-i-preserved-then-depth-rank : goal.loop-i-preserved-then-depth-rank
 loop-i-preserved-then-depth-rank c =
-    let m = (passed-word (goal.at.loop-i-preserved-then-depth-rank c).After-rank_of-rank).0 (omega arith) in
+    let m = (passed_word (goal.at.loop-i-preserved-then-depth-rank c).After-rank_of-rank).0 (omega arith) in
     (omega arith, omega arith, omega arith, omega arith, omega arith)
 
 pub loop-i-preserved : goal.loop-i-preserved
 loop-i-preserved c =
-    let m = (passed-word (goal.at.loop-i-preserved c).After-rank_of-rank).1 (omega arith) in
+    let m = (passed_word (goal.at.loop-i-preserved c).After-rank_of-rank).1 (omega arith) in
     (omega arith, omega arith, omega arith, omega arith, omega arith)

@@ -29,9 +29,8 @@ before-b-requires c =
     )
 
 -- the next gap has its place
-
-room-left : (c : At-loop-i) → (c.loop-i.m < 1280) × (c.loop-i.m < length c.loop-i.sizes)
-room-left c =
+room_left : (c : At-loop-i) → (c.loop-i.m < 1280) × (c.loop-i.m < length c.loop-i.sizes)
+room_left c =
     let a = c.args in
     let l = c.loop-i in
     let h =
@@ -40,7 +39,6 @@ room-left c =
     (omega (arith, (inside c.requires.0 c.args.r c.requires.1 c.args.sizes.now c.requires.2)), omega (arith, (inside c.requires.0 c.args.r c.requires.1 c.args.sizes.now c.requires.2), l.invariant.1.long))
 
 -- a parameter: what stands before it, and with it the next gap
-
 found : (c : After-parameter)
     → let l = c.loop-i in
     let a = c.args in
@@ -67,15 +65,15 @@ overflow_sub-sizes c =
 
 pub offset_bounds-sizes-m : goal.offset_bounds-sizes-m
 offset_bounds-sizes-m c =
-    omega (arith, room-left (goal.at.offset_bounds-sizes-m c).At-loop-i)
+    omega (arith, room_left (goal.at.offset_bounds-sizes-m c).At-loop-i)
 
 pub bounds-sizes-m : goal.bounds-sizes-m
 bounds-sizes-m c =
-    omega (arith, room-left (goal.at.bounds-sizes-m c).At-loop-i)
+    omega (arith, room_left (goal.at.bounds-sizes-m c).At-loop-i)
 
 pub overflow_add-m : goal.overflow_add-m
 overflow_add-m c =
-    omega (arith, room-left (goal.at.overflow_add-m c).At-loop-i)
+    omega (arith, room_left (goal.at.overflow_add-m c).At-loop-i)
 
 pub loop-i-preserved : goal.loop-i-preserved
 loop-i-preserved c =
@@ -97,7 +95,6 @@ loop-i-preserved c =
     ]
 
 -- after the last word
-
 finished : (c : After-loop-i)
     → let l = c.loop-i in
     let a = c.args in
@@ -115,11 +112,11 @@ overflow_sub-sizes-2 c =
 
 pub offset_bounds-sizes-m-2 : goal.offset_bounds-sizes-m-2
 offset_bounds-sizes-m-2 c =
-    omega (arith, room-left (goal.at.offset_bounds-sizes-m-2 c).At-loop-i)
+    omega (arith, room_left (goal.at.offset_bounds-sizes-m-2 c).At-loop-i)
 
 pub bounds-sizes-m-2 : goal.bounds-sizes-m-2
 bounds-sizes-m-2 c =
-    omega (arith, room-left (goal.at.bounds-sizes-m-2 c).At-loop-i)
+    omega (arith, room_left (goal.at.bounds-sizes-m-2 c).At-loop-i)
 
 pub returns : goal.returns
 returns c =

@@ -16,7 +16,6 @@ total-all-requires c =
     (t.fits, omega (arith, t.short), c.requires.2, c.requires.3.small)
 
 -- its size was found
-
 found : (c : After-total-all)
     → let a = c.args in
     c.total-all.result ≡ size (get_or (expansions (written_rules a.file.now)) a.r [])

@@ -22,7 +22,6 @@ put_own-next-requires c =
     (word_fits x.0 x.1 (omega arith) c.word_at-w.result c.word_at-w.ensures, omega (arith, x.1.pieces_long), g.0, g.1)
 
 -- a word has at most four children, and its entry fits
-
 rank_few : (c : After-rank_of-k) → c.rank_of-k.result ≤ 4
 rank_few c =
     let x = c.loop-i.invariant in

@@ -12,13 +12,13 @@ use Rattle.queries.proofs.Windows.{answer_refused, answer_outside, answer_inside
 use Rattle.queries.proofs.window.window.Goals.{After-first_gaps-nodes, In-Taken}
 use Rattle.queries.proofs.window.window.Goals as goal
 
+-- a file that is taken denotes a grammar
 denoted : (c : In-Taken)
     → Denotes c.args.file.now c.in-Taken.n c.read-r.new.table c.read-r.new.sizes
 denoted c =
     denotes c.args.file.now c.in-Taken.n c.read-r.result _ c.read-r.new.table _ c.read-r.new.sizes c.in-Taken.is c.read-r.ensures (omega arith) (omega arith)
 
 -- and its nodes are counted
-
 counted : (c : After-first_gaps-nodes) → c.first_gaps-nodes.result ≡ nodes (rules_of c.args.file.now)
 counted c =
     let d = denotes c.args.file.now c.in-Taken.n c.read-r.result _ c.read-r.new.table _ c.read-r.new.sizes c.in-Taken.is c.read-r.ensures (omega arith) (omega arith) in
