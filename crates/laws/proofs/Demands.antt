@@ -64,7 +64,7 @@ demand_2_packing = pack_returns
 pub published_update : (t : BinaryTree) → T (labelled t) → (u : Update) → Suits (words_of t) u → words_of (published u t) ≡ updated u (words_of t)
 published_update = published_words
 
--- insert_before(t_i = r(t_i1, #)): "p 以下の部分木 t_p = λ_t(p)(t_1, t_2) を r(t_i1, λ_t(p)(t_1, t_2)) に置き換える" (t_p is replaced by r(t_i1, t_p))
+-- insert-before(t_i = r(t_i1, #)): "p 以下の部分木 t_p = λ_t(p)(t_1, t_2) を r(t_i1, λ_t(p)(t_1, t_2)) に置き換える" (t_p is replaced by r(t_i1, t_p))
 pub published_insert : (r : ℕ) (t₁ t : BinaryTree) → inserted_before (element r t₁ empty_tree) t ≡ element r t₁ t
 published_insert r t₁ t = refl
 

@@ -41,7 +41,7 @@ abbrev pub deleted : BinaryTree → BinaryTree
 deleted empty_tree = empty_tree
 deleted (element l t₁ t₂) = t₂
 
--- insert_before(t_i = r(t_i1, #)): "p 以下の部分木 t_p = λ_t(p)(t_1, t_2) を r(t_i1, λ_t(p)(t_1, t_2)) に置き換える" (t_p is replaced by r(t_i1, t_p)). Here t_p comes under the last
+-- insert-before(t_i = r(t_i1, #)): "p 以下の部分木 t_p = λ_t(p)(t_1, t_2) を r(t_i1, λ_t(p)(t_1, t_2)) に置き換える" (t_p is replaced by r(t_i1, t_p)). Here t_p comes under the last
 -- ⊥ of any tree: "inserting several siblings or at a ⊥ is added". Of r(t_i1, ⊥) it makes r(t_i1, t_p), as published.
 abbrev pub inserted_before : BinaryTree → BinaryTree → BinaryTree
 inserted_before empty_tree t = t
@@ -71,7 +71,7 @@ published_as delete t = deleted t
 abbrev pub published : Update → BinaryTree → BinaryTree
 published u t = replaced_at (published_as u.edit) t u.at
 
--- Several at once: "relabel, delete, insert_before, insert-after は、選択頂点を post_order(帰りがけ順)で更新していき" (the selected nodes are updated in postorder): each node of the base after those
+-- Several at once: "relabel, delete, insert-before, insert-after は、選択頂点を post-order(帰りがけ順)で更新していき" (the selected nodes are updated in postorder): each node of the base after those
 -- below it. p is the number in the base of the tree's root.
 abbrev pub edit_at : List Update → ℕ → Option Edit
 edit_at [] p = none
