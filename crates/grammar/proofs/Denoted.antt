@@ -12,10 +12,10 @@ use Rattle.laws.proofs.Words.Tests.{T_true}
 use Rattle.laws.proofs.Trees.Folds.{tree_is_tree}
 use Rattle.laws.proofs.Trees.Grammar.{RuleOf, rule_of, expansions_solve}
 use Rattle.grammar.specs.declared.rules.Entry.{Entry}
-use Rattle.grammar.specs.Meaning.{word_in, ranks_in, RanksSmall, padded, no_rule}
+use Rattle.grammar.specs.Meaning.{body_in, word_in, ranks_in, RanksSmall, padded, no_rule}
 use Rattle.grammar.specs.Measures.{first_gaps, gap_rows, Laid, Denotes}
 use Rattle.grammar.proofs.Rows.{gap_there}
-use Rattle.grammar.proofs.Entered.{count, inside, table_rank, BodyThere, body_there, bytes_there, all_small}
+use Rattle.grammar.proofs.Entered.{count, inside, table_rank, BodyThere, body_there, bytes_there, word_of_file, all_small}
 use Rattle.grammar.proofs.Entered.{ranks_are as laid_ranks}
 use Rattle.grammar.proofs.Tabled.{word_there}
 use Rattle.grammar.proofs.Promise.{all_gaps, nodes_there}
@@ -63,21 +63,26 @@ module _ {file : List ℕ} {rules : List Entry} {sizes : List ℕ} (d : Denotes 
     pub words_are : (get_or rules r no_rule).words ≡ length (body_at d.rules r)
     words_are = there.many
 
-    -- all of it, of its bytes: its words, and that it is one complete tree, as the end of a subtree needs it
+    pub body_is : body_in file (get_or rules r no_rule).place (get_or rules r no_rule).words ≡ body_at d.rules r
+    body_is = there.is
+
+    pub word_is : (i : ℕ) → i < (get_or rules r no_rule).words → word_in file ((get_or rules r no_rule).place + 2 * i) ≡ get_or (body_at d.rules r) i 0
+    word_is i h = sym (word_of_file there i h)
+
+    -- it is one complete tree, as the end of a subtree needs it
+    pub body_tree : is_tree (ranks_in rules) (body_in file (get_or rules r no_rule).place (get_or rules r no_rule).words) ≡ true
+    body_tree =
+        ap₂ is_tree ranks_are body_is
+        ∙ T_true (is_tree (ranks_of d.rules) (body_at d.rules r)) (tree_is_tree (ranks_of d.rules) (body_at d.rules r) rule.tree)
+
+    -- all of it, of its bytes
     pub body_read : (bytes : List ℕ) → bytes ≡ take (2 * (get_or rules r no_rule).words) (drop (get_or rules r no_rule).place file)
         → (words_in bytes ≡ body_at d.rules r) × (length bytes / 2 ≡ length (body_at d.rules r)) × (length bytes ≤ 16384) × (is_tree (ranks_in rules) (words_in bytes) ≡ true)
-    body_read bytes e =
-        let b = bytes_there laid r below bytes e in (
-          b.is,
-          b.many,
-          b.short,
-          ap₂ is_tree ranks_are b.is
-              ∙ T_true (is_tree (ranks_of d.rules) (body_at d.rules r)) (tree_is_tree (ranks_of d.rules) (body_at d.rules r) rule.tree),
-        )
+    body_read bytes e = let b = bytes_there laid r below bytes e in (b.is, b.many, b.short, ap (λ (l : List ℕ). is_tree (ranks_in rules) (words_in l)) e ∙ body_tree)
 
-    pub word_is : (bytes : List ℕ) → bytes ≡ take (2 * (get_or rules r no_rule).words) (drop (get_or rules r no_rule).place file)
+    pub word_read : (bytes : List ℕ) → bytes ≡ take (2 * (get_or rules r no_rule).words) (drop (get_or rules r no_rule).place file)
         → (i : ℕ) → i < length bytes / 2 → word_in bytes (2 * i) ≡ get_or (body_at d.rules r) i 0
-    word_is bytes e i h = sym (word_there laid r below (bytes_there laid r below bytes e) i h)
+    word_read bytes e i h = sym (word_there laid r below (bytes_there laid r below bytes e) i h)
 
     -- the gaps and the size
     pub gap_is : (m : ℕ) → m < 5 → get_or sizes (5 * r + m) 0 ≡ get_or (gap_sizes (get_or (expansions d.rules) r [])) m 0

@@ -2,19 +2,20 @@
 use Prim.Native.Nat.{ℕ, zero, suc, ◌+◌, ◌*◌, ◌/◌, ◌≤◌, ◌<◌}
 use mathlib.Core.Path.{◌≡◌, refl, sym, ap, subst, ◌∙◌}
 use mathlib.Core.List.{List, [], ◌∷◌}
+use native.Mathlib.Nat.{add_assoc}
 use native.Mathlib.Omega.{arith}
 use native.Mathlib.Decide.{dec_lt}
 use lib.ListN.{length, take, drop, get_or, length-drop, get_or-eq_default}
-use lib.Seq.{get_or-take, length-take-le}
+use lib.Seq.{get_or-take, get_or-drop, length-take-le}
 use Rattle.std.proofs.Common.{length-take}
 use Rattle.model.specs.File.{words_in}
 use Rattle.model.specs.Trees.{Rule, ranks_of}
 use Rattle.laws.specs.Formed.{body_at}
 use Rattle.laws.proofs.Trees.Grammar.{rule_of, formed_parts, length_ranks}
 use Rattle.grammar.specs.declared.rules.Entry.{Entry}
-use Rattle.grammar.specs.Meaning.{body_in, entries, Bodies, place_after, ranks_in, RanksSmall, no_rule}
+use Rattle.grammar.specs.Meaning.{word_in, body_in, entries, Bodies, place_after, ranks_in, RanksSmall, no_rule}
 use Rattle.grammar.specs.Measures.{Laid}
-use Rattle.grammar.proofs.BodyWords.{length_body}
+use Rattle.grammar.proofs.BodyWords.{length_body, body_word}
 use Rattle.grammar.proofs.Tables.{rank_in, ranks_take}
 use Rattle.grammar.proofs.RuleLists.{length_entries, ranks_of_entries}
 
@@ -56,6 +57,19 @@ bytes_of {file} {body} {rule} t bytes e =
     let long : length bytes ≡ 2 * rule.words =
     ap length e ∙ length-take-le (2 * rule.words) (drop rule.place file) (omega (arith, length-drop rule.place file, t.fits)) in
     record { short = omega (arith, t.short); many = sym (length_body bytes) ∙ ap length is; is = is }
+
+-- a word of it, where it stands in the file
+pub word_of_file : {file body : List ℕ} {rule : Entry} → BodyThere file body rule → (i : ℕ) → i < rule.words → get_or body i 0 ≡ word_in file (rule.place + 2 * i)
+word_of_file {file} {body} {rule} t i h =
+    let bytes = take (2 * rule.words) (drop rule.place file) in
+    let long : length bytes ≡ 2 * rule.words = length-take-le (2 * rule.words) (drop rule.place file) (omega (arith, length-drop rule.place file, t.fits)) in
+    ap (λ (l : List ℕ). get_or l i 0) (sym t.is)
+    ∙ body_word bytes i (omega (arith, long))
+    ∙ ap (λ (n : ℕ). n + 256 * get_or bytes (2 * i + 1) 0) (byte (2 * i) (omega arith))
+    ∙ ap (λ (n : ℕ). get_or file (rule.place + 2 * i) 0 + 256 * n) (byte (2 * i + 1) (omega arith) ∙ ap (λ (n : ℕ). get_or file n 0) (sym (add_assoc rule.place (2 * i) 1)))
+  where
+    byte : (k : ℕ) → k < 2 * rule.words → get_or (take (2 * rule.words) (drop rule.place file)) k 0 ≡ get_or file (rule.place + k) 0
+    byte k l = get_or-take (2 * rule.words) (drop rule.place file) k 0 l ∙ get_or-drop rule.place file k 0
 
 -- the table says of rule r
 module _ {R : List Rule} {file : List ℕ} {rules : List Entry} (M : Laid R file rules) where

@@ -94,6 +94,9 @@ row_is e h =
     zeros (suc k) zero h = absurd (omega arith)
     zeros (suc k) (suc m) h = ap {B = List ℕ} (λ l. 0 ∷ l) (zeros k m (omega arith))
 
+zeros_more : (k m n : ℕ) → n ≡ k + m → replicate {A = ℕ} k 0 ++ replicate m 0 ≡ replicate n 0
+zeros_more k m n e = replicate-append-replicate k m 0 ∙ ap (λ (j : ℕ). replicate j 0) (sym e)
+
 pub rows_more : (len : ℕ) (es : List (List ℕ)) (r : ℕ) → r < length es → length (gap_sizes (get_or es r [])) ≤ 5 → 5 * r + 5 ≤ len
     → padded 0 len (gap_rows (take r es) ++ gap_sizes (get_or es r [])) ≡ padded 0 len (gap_rows (take (suc r) es))
 rows_more len es r h l room = sym
@@ -127,7 +130,7 @@ rows_more len es r h l room = sym
         let left : len - length (rows ++ gs) ≡ k + (len - (5 * r + 5)) = omega arith in
         ap (λ (n : ℕ). (rows ++ (gs ++ replicate k 0)) ++ replicate (len - n) 0) a
         ∙ regroup rows gs (replicate k 0) (replicate (len - (5 * r + 5)) 0)
-        ∙ ap (λ (x : List ℕ). (rows ++ gs) ++ x) (replicate-append-replicate k (len - (5 * r + 5)) 0 ∙ ap (λ (n : ℕ). replicate n 0) (sym left))
+        ∙ ap (λ (x : List ℕ). (rows ++ gs) ++ x) (zeros_more k (len - (5 * r + 5)) (len - length (rows ++ gs)) left)
 
 -- a store at the first 0 behind the entries
 pub store_next : (len : ℕ) (xs : List ℕ) (m v : ℕ) → m ≡ length xs → m < len → set (padded 0 len xs) m v ≡ padded 0 len (xs ++ v ∷ [])

@@ -1,4 +1,5 @@
-// Document 01, "Trees and words": a body's words, read by a cursor that is handed on by value. A body is lent as its bytes in the file, two for each word.
+// Document 01, "Trees and words": a body's words, read by a cursor that is handed on by value. A body is lent as its bytes in the file, two for each word. No struct
+// round the slice keeps the bounds that the functions ask for: each of its clauses would read `body.entry.bytes.now` for `body.now`, so would the rules' and the sizes'.
 ghost use Rattle.std.specs.Prelude.{◌≡◌, ◌+◌, ◌*◌, ◌≤◌, ◌<◌, length, true};
 ghost use Rattle.model.specs.Words.{rank_of, is_parameter, when_parameter};
 ghost use Rattle.model.specs.File.{words_in};
@@ -92,16 +93,12 @@ pub(crate) fn one_tree(body: &[u8], rules: &[Entry]) -> bool
     let mut c = Cursor::new();
     // No `for`: the cursor says the place, document 01 asks for one that is handed on by value.
     while c.at < body.len() / 2 {
-        let i = c.at;
-        let due = c.due;
-        if due == 0 {
+        if c.due == 0 {
             return false;
         }
-        let rank = rank_of(rules, word_at(body, 2 * i));
-        c = c.step(rank);
+        c = c.step(rank_of(rules, word_at(body, 2 * c.at)));
     }
-    let due = c.due;
-    due == 0
+    c.due == 0
 }
 
 // The place after the subtree that begins at place i of a body: where no tree is due any more.
@@ -113,8 +110,7 @@ pub fn subtree_end(body: &[u8], i: usize, rules: &[Entry]) -> usize
     let mut c = Cursor::at_place(i);
     while 0 < c.due {
         let j = c.at;
-        let rank = rank_of(rules, word_at(body, 2 * j));
-        c = c.step(rank);
+        c = c.step(rank_of(rules, word_at(body, 2 * j)));
     }
     c.at
 }

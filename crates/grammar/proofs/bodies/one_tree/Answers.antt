@@ -19,19 +19,19 @@ loop-c-init c =
           c.new-c.ensures.0 c.new-c.ensures.1,
     )
 
-pub returns-then-due-eq0 : goal.returns-then-due-eq0
-returns-then-due-eq0 c =
+pub returns-then-c-eq0 : goal.returns-then-c-eq0
+returns-then-c-eq0 c =
     let a = c.args in
     let i = c.loop-c.c.at in
     let l : i < length a.body.now / 2 = omega arith in
     sym
     (c.loop-c.invariant.2
-    ∙ ap (λ (n : ℕ). due_ok (ranks_in a.rules.now) n (drop i (words_in a.body.now))) c.if-due-eq0.true
+    ∙ ap (λ (n : ℕ). due_ok (ranks_in a.rules.now) n (drop i (words_in a.body.now))) c.if-c-eq0.true
     ∙ due_stop (ranks_in a.rules.now) (words_in a.body.now) i _ _ (body_rest a.body.now i l))
 
 pub step-c-requires : goal.step-c-requires
 step-c-requires c =
-    omega (arith, c.rank_of-rank.ensures, rank_small c.args.rules.now c.requires.1 c.word_at.result)
+    omega (arith, c.rank_of.ensures, rank_small c.args.rules.now c.requires.1 c.word_at.result)
 
 pub loop-c-preserved : goal.loop-c-preserved
 loop-c-preserved c =
@@ -39,13 +39,13 @@ loop-c-preserved c =
     let i = c.loop-c.c.at in
     let l : i < length a.body.now / 2 = omega arith in (
       omega arith,
-      omega (arith, c.rank_of-rank.ensures, rank_small a.rules.now c.requires.1 c.word_at.result),
+      omega (arith, c.rank_of.ensures, rank_small a.rules.now c.requires.1 c.word_at.result),
       c.loop-c.invariant.2
           ∙ due_step (ranks_in a.rules.now) (words_in a.body.now) i c.loop-c.c.due _
           (body_rest a.body.now i l) (omega arith) c.step-c.result.at c.step-c.result.due c.step-c.ensures.0
           (c.step-c.ensures.1
           ∙ ap (λ (k : ℕ). c.loop-c.c.due + k)
-          (c.rank_of-rank.ensures ∙ ap (rank_of (ranks_in a.rules.now)) c.word_at.ensures)),
+          (c.rank_of.ensures ∙ ap (rank_of (ranks_in a.rules.now)) c.word_at.ensures)),
     )
 
 pub returns : goal.returns

@@ -41,7 +41,7 @@ word_at-requires c =
 
 pub step-c-requires : goal.step-c-requires
 step-c-requires c =
-    omega (arith, c.rank_of-rank.ensures, rank_small c.args.rules.now c.requires.1 c.word_at.result)
+    omega (arith, c.rank_of.ensures, rank_small c.args.rules.now c.requires.1 c.word_at.result)
 
 pub loop-c-smaller : goal.loop-c-smaller
 loop-c-smaller c =
@@ -55,12 +55,12 @@ loop-c-preserved c =
     let body = words_in a.body.now in
     let inside : l.c.at < length a.body.now / 2 = before_word (goal.at.loop-c-preserved c).In-loop-c in (
       omega arith,
-      omega (arith, c.rank_of-rank.ensures, rank_small a.rules.now c.requires.1 c.word_at.result),
+      omega (arith, c.rank_of.ensures, rank_small a.rules.now c.requires.1 c.word_at.result),
       due_next ranks body c.requires.3 (a.i + length (subtree ranks a.i body)) l.c.at l.c.due c.word_at.result l.invariant.2
           (omega arith)
           (subst (λ w. drop l.c.at body ≡ w ∷ drop (l.c.at + 1) body) (sym c.word_at.ensures) (body_rest a.body.now l.c.at inside))
           c.step-c.result.at c.step-c.result.due c.step-c.ensures.0
-          (omega (arith, c.step-c.ensures.1, c.rank_of-rank.ensures)),
+          (omega (arith, c.step-c.ensures.1, c.rank_of.ensures)),
     )
 
 pub returns : goal.returns
