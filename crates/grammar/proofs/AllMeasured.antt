@@ -55,12 +55,13 @@ module _ (rules : List Rule) (len r : ℕ) (sizes : List ℕ) (D : MeasuredTo ru
       go j (no h) k s = let e : j ≡ r = omega arith in rw e s
 
   pub first_huge : T (formed rules) → r < length rules → {A : Type 0} (b : Outcome A Refused) (x : Refused) → b ≡ Err x → (before after : List ℕ)
-      → RuleMeasured b r rules after → MeasuredIs {A = A} (Err x) rules before after
-  first_huge f h {A} b x q before after m =
+      → RuleMeasured b r rules after → length after ≡ length before → MeasuredIs {A = A} (Err x) rules before after
+  first_huge f h {A} b x q before after m as_long =
       let s : RuleMeasured {A = A} (Err x) r rules after = subst (λ (b : Outcome A Refused). RuleMeasured b r rules after) q m in (
         r,
         lowest_some 0 (expansions rules) r (omega (arith, (expansions_solve rules f).0)) D.fit s.0 ∙ ap some (zero-add r),
         s.1,
+        as_long,
       )
 
 pub all_fit : (rules : List Rule) → T (formed rules) → (before : List ℕ) → before ≡ replicate (length before) 0 → 1280 ≤ length before

@@ -66,7 +66,8 @@ RuleMeasured (Err x) r rules after = (largest_size < size (get_or (expansions ru
 -- what measuring leaves in the size table
 abbrev pub MeasuredIs : {A : Type 0} → Outcome A Refused → List Rule → List ℕ → List ℕ → Type 0
 MeasuredIs (Ok a) rules before after = (lowest_huge 0 (expansions rules) ≡ none) × (after ≡ sets before 0 (gap_rows (expansions rules)))
-MeasuredIs (Err x) rules before after = (r : ℕ) × (lowest_huge 0 (expansions rules) ≡ some r) × (x ≡ record { refusal = Huge; place = r + 1 })
+MeasuredIs (Err x) rules before after =
+    (r : ℕ) × (lowest_huge 0 (expansions rules) ≡ some r) × (x ≡ record { refusal = Huge; place = r + 1 }) × (length after ≡ length before)
 
 -- the size table after a file was read
 abbrev pub size_table : ℕ → Result (List Rule) → List ℕ

@@ -1,4 +1,5 @@
 -- `grammar::sizes::measure` meets its contract: the rules below r were measured.
+use mathlib.Core.Path.{◌∙◌}
 use native.Mathlib.Omega.{arith}
 use lib.ListN.{length}
 use Rattle.std.proofs.lemmas.Result.{err_from_is_err_and}
@@ -14,7 +15,7 @@ returns-in_err-measure_rule c =
     let p = err_from_is_err_and c.from_residual.result c.from_residual.ensures.1 in
     rw (p.1, p.2)
     (first_huge (written_rules a.file.now) (length a.sizes.now) l.r l.sizes l.invariant c.requires.0.is_formed (omega (arith, count c.requires.0))
-    c.measure_rule.result c.in_err-measure_rule.field-0.0 c.in_err-measure_rule.was a.sizes.now c.measure_rule.new.sizes c.measure_rule.ensures)
+    c.measure_rule.result c.in_err-measure_rule.field-0.0 c.in_err-measure_rule.was a.sizes.now c.measure_rule.new.sizes c.measure_rule.ensures (c.measure_rule.auto.sizes ∙ l.invariant.long))
 
 pub returns : goal.returns
 returns c =
