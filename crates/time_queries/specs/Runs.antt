@@ -1,8 +1,8 @@
 -- The answers of calls that are made one after the other.
 use Rattle.std.specs.Prelude.{ℕ, zero, suc, List}
 use Rattle.model.specs.Answers.{counted}
-use Rattle.time_queries.specs.declared.task.Operation.{Operation}
-use Rattle.time_queries.specs.declared.task.Operation.TheVariants.{Check, Count, Label, Window}
+use Rattle.text.specs.declared.operations.Operation.{Operation}
+use Rattle.text.specs.declared.operations.Operation.TheVariants.{Check, Count, Label, Window}
 use Rattle.time_queries.specs.declared.task.Task.{Task}
 use Rattle.time_queries.specs.declared.tallies.Tally.{Tally}
 use Rattle.time_queries.specs.Inputs.{varied, start_at, starts_of, window_length}

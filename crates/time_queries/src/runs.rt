@@ -7,11 +7,12 @@ ghost use Rattle.time_queries.specs.Runs.{tallies, tally_of, run_line};
 
 use crate::inputs::{flip, next_start, starts_of, window_length};
 use crate::tallies::{Reply, Tally};
-use crate::task::{Operation, Task};
+use crate::task::Task;
 use arrayvec::ArrayVec;
 use grammar::answers::{check, count};
 use queries::label::label;
 use queries::window::window;
+use text::operations::Operation;
 
 // Makes the calls, and puts their line.
 pub(crate) fn put_run<const N: usize>(task: Task, file: &mut [u8], out: &mut ArrayVec<u8, N>)
@@ -61,7 +62,7 @@ fn run_whole<F: Fn(&[u8]) -> Reply>(file: &mut [u8], times: u64, call: F) -> Tal
     ghost replies: { List ℕ → Replied }
     requires callable { F.IsAlwaysCallable call }
     requires replies { (f : _) (r : _) → F.post call f r → reply_is r ≡ replies f.now }
-    ensures { result ≡ tallies (λ i. replies (varied file.old i)) times }
+    ensures { (result ≡ tallies (λ i. replies (varied file.old i)) times) × (file.new ≡ varied file.old times) }
 {
     let mut t = Tally::default();
     for _ in 0..times {

@@ -1,35 +1,8 @@
 // What the arguments ask.
-ghost use Rattle.time_queries.specs.Task.{Asked, Named};
+ghost use Rattle.time_queries.specs.Task.{Asked};
 
 use text::numbers::read_decimal;
-
-#[derive(Clone, Copy)]
-pub enum Operation {
-    Check,
-    Count,
-    Label,
-    Window,
-}
-
-impl Operation {
-    fn named(name: &[u8]) -> Option<Operation>
-        ensures { Named name.now result }
-    {
-        if name == b"check".as_slice() {
-            return Some(Operation::Check);
-        }
-        if name == b"count".as_slice() {
-            return Some(Operation::Count);
-        }
-        if name == b"label".as_slice() {
-            return Some(Operation::Label);
-        }
-        if name == b"window".as_slice() {
-            return Some(Operation::Window);
-        }
-        None
-    }
-}
+use text::operations::Operation;
 
 // An operation, and how many times it is called.
 #[derive(Clone, Copy)]
