@@ -10,87 +10,32 @@
 mod question;
 mod replies;
 
-ghost use Rattle.std.specs.Prelude.{◌≡◌, length};
-ghost use Rattle.io.specs.Counts.{IsPrefixLen};
-ghost use Rattle.ask.specs.Question.{Allowed};
-
-use question::{Question, parse};
+use arrayvec::ArrayVec;
+use question::parse;
 use replies::put_reply;
-use std::env::FillError;
-use std::rt::Env;
+use text::arguments::{argument, arguments};
 
 const STDIN: i32 = 0;
 
 const STDOUT: i32 = 1;
 
+// An argument of more than 32 bytes is no part of a question, and no question has five arguments. A wrong question reads nothing.
 fn main(rt: HostRuntime) {
-    let q = asked(&rt);
-    let mut file = file_space();
-    let n = read_file(q, &mut file);
-    let mut words = word_space();
-    let mut out = text_space();
-    let end = put_reply(q, &file[..n], &mut words, &mut out);
-    io::write_all(STDOUT, &out[..end]);
-}
-
-// An argument of more than 32 bytes is no part of a question.
-fn asked(rt: &impl Env) -> Question
-    ensures { Allowed result }
-{
-    let mut name = [0u8; 32];
-    let mut first = [0u8; 32];
-    let mut second = [0u8; 32];
-    let a = argument(rt, 1, &mut name);
-    let b = argument(rt, 2, &mut first);
-    let c = argument(rt, 3, &mut second);
-    parse(arguments(rt), &name[..a], &first[..b], &second[..c])
-}
-
-// An argument's length, with its bytes at the start of `text`; 0 where it is missing or too long.
-fn argument(rt: &impl Env, i: usize, text: &mut [u8]) -> usize
-    ensures { IsPrefixLen result text.new }
-{
-    match rt.arg(i, text) {
-        Ok(n) => n,
-        Err(_) => 0,
-    }
-}
-
-// How many arguments there are, the program's name among them. No question has five, so what comes after the fifth isn't counted.
-fn arguments(rt: &impl Env) -> usize {
-    let mut text = [0u8; 32];
-    for i in 0..5 {
-        if let Err(FillError::NotPresent) = rt.arg(i, &mut text) {
-            return i;
-        }
-    }
-    5
-}
-
-// A wrong question reads nothing.
-fn read_file(q: Question, file: &mut [u8]) -> usize
-    ensures { IsPrefixLen result file.new }
-{
-    if let Question::Wrong = q {
-        return 0;
-    }
-    io::read_full(STDIN, file)
-}
-
-fn file_space() -> [u8; 16385]
-    ensures { 16385 ≡ length result }
-{
-    [0; 16385]
-}
-
-fn word_space() -> [u16; 16384]
-    ensures { 16384 ≡ length result }
-{
-    [0; 16384]
-}
-
-fn text_space() -> [u8; 82000]
-    ensures { 82000 ≡ length result }
-{
-    [0; 82000]
+    let mut name = [0; 32];
+    let mut first = [0; 32];
+    let mut second = [0; 32];
+    let question = parse(
+        arguments::<5>(&rt),
+        argument(&rt, 1, &mut name),
+        argument(&rt, 2, &mut first),
+        argument(&rt, 3, &mut second),
+    );
+    let mut file = [0; 16385];
+    let n = match question {
+        Some(_) => io::read_full(STDIN, &mut file),
+        None => 0,
+    };
+    let mut out: ArrayVec<u8, 82000> = ArrayVec::new();
+    put_reply(question, &file[..n], &mut out);
+    io::write_all(STDOUT, &out);
 }

@@ -1,9 +1,9 @@
 // What the arguments ask.
-ghost use Rattle.std.specs.Prelude.{◌≡◌};
-ghost use Rattle.ask.specs.Question.{question_of, bare_question, label_question, window_question, window_allowed, Allowed};
+ghost use Rattle.std.specs.Prelude.{◌≡◌, IfSome};
+ghost use Rattle.ask.specs.Question.{question_of, window_allowed, Allowed};
 
-use check::same;
-use text::numbers::{Number, read_decimal};
+use text::numbers::read_decimal;
+use text::operations::Operation;
 
 #[derive(Clone, Copy)]
 pub enum Question {
@@ -11,73 +11,30 @@ pub enum Question {
     Count,
     Label(u64),
     Window(u64, usize),
-    Wrong,
 }
 
-// `arguments` is their count, the program's name among them. An argument that is missing is empty.
-pub(crate) fn parse(arguments: usize, name: &[u8], first: &[u8], second: &[u8]) -> Question
-    ensures { (result ≡ question_of arguments name.now first.now second.now) × Allowed result }
+// `arguments` is their count, the program's name among them. An argument that is missing is empty. A wrong question is none.
+#[tactic(auto, using(crate::proofs::Names::other_name), unfolding(crate::specs::Question::question_of))]
+pub(crate) fn parse(arguments: usize, name: &[u8], first: &[u8], second: &[u8]) -> Option<Question>
+    ensures asked { result ≡ question_of arguments name.now first.now second.now }
+    ensures allowed { IfSome result Allowed }
 {
-    if arguments == 2 {
-        return bare(name);
+    let operation = Operation::named(name)?;
+    match (operation, arguments) {
+        (Operation::Check, 2) => Some(Question::Check),
+        (Operation::Count, 2) => Some(Question::Count),
+        (Operation::Label, 3) => Some(Question::Label(read_decimal(first)?)),
+        (Operation::Window, 4) => window_of(read_decimal(first)?, read_decimal(second)?),
+        _ => None,
     }
-    if arguments == 3 {
-        return label_of(name, first);
-    }
-    if arguments == 4 {
-        return window_of(name, first, second);
-    }
-    Question::Wrong
-}
-
-fn bare(name: &[u8]) -> Question
-    ensures { result ≡ bare_question name.now }
-{
-    if same(name, b"check") {
-        return Question::Check;
-    }
-    if same(name, b"count") {
-        return Question::Count;
-    }
-    Question::Wrong
-}
-
-fn label_of(name: &[u8], first: &[u8]) -> Question
-    ensures { result ≡ label_question name.now first.now }
-{
-    if !same(name, b"label") {
-        return Question::Wrong;
-    }
-    let number = read_decimal(first);
-    match number {
-        Number::Is(p) => Question::Label(p),
-        Number::Not => Question::Wrong,
-    }
-}
-
-fn window_of(name: &[u8], first: &[u8], second: &[u8]) -> Question
-    ensures { result ≡ window_question name.now first.now second.now }
-{
-    if !same(name, b"window") {
-        return Question::Wrong;
-    }
-    let position = read_decimal(first);
-    let Number::Is(p) = position else {
-        return Question::Wrong;
-    };
-    let size = read_decimal(second);
-    let Number::Is(length) = size else {
-        return Question::Wrong;
-    };
-    window_at(p, length)
 }
 
 // A window of at most 16,384 words.
-fn window_at(p: u64, length: u64) -> Question
-    ensures { result ≡ window_allowed p length }
+fn window_of(position: u64, length: u64) -> Option<Question>
+    ensures { result ≡ window_allowed position length }
 {
     if length > 16384 {
-        return Question::Wrong;
+        return None;
     }
-    Question::Window(p, length as usize)
+    Some(Question::Window(position, length as usize))
 }

@@ -1,88 +1,67 @@
 // What is printed for an answer.
-ghost use Rattle.std.specs.Prelude.{◌+◌, ◌*◌, ◌≤◌, [], ◌∷◌, ◌++◌, length};
-ghost use Rattle.text.specs.Lines.{Put};
+ghost use Rattle.std.specs.Prelude.{◌≡◌, ◌+◌, ◌*◌, ◌≤◌, [], ◌∷◌, ◌++◌, length, Some, IfSome};
+ghost use Rattle.arrayvec.specs.ArrayVec.{array_vec_len};
+ghost use Rattle.grammar.specs.Meaning.{answer_is};
 ghost use Rattle.text.specs.Numbers.{decimal};
-ghost use Rattle.io.specs.Counts.{IsPrefixLen};
 ghost use Rattle.ask.specs.Question.{Allowed};
-ghost use Rattle.ask.specs.Replies.{reply_to};
+ghost use Rattle.ask.specs.Replies.{reply, reply_to};
 
 use crate::question::Question;
+use arrayvec::ArrayVec;
 use grammar::answers::{check, count};
+use grammar::refusals::Answer;
 use queries::label::label;
 use queries::window::window;
 use text::answers::{is_accepted, put_answer};
 use text::lines::put;
 use text::numbers::{put_decimal, put_words};
 
-// The reply to a question, put at the start of `out`; `words` is for a window.
-pub(crate) fn put_reply(q: Question, file: &[u8], words: &mut [u16], out: &mut [u8]) -> usize
-    requires { Allowed q × (16384 ≤ length words.old) × (82000 ≤ length out.old) }
-    ensures { Put (reply_to q file.now) out.old 0 out.new result × IsPrefixLen result out.new }
+// The reply to a question; to a wrong one, which is none, the usage.
+pub(crate) fn put_reply<const N: usize>(q: Option<Question>, file: &[u8], out: &mut ArrayVec<u8, N>)
+    requires allowed { IfSome q Allowed }
+    requires room { array_vec_len out.old + 82000 ≤ N }
+    ensures { out.new.items ≡ out.old.items ++ reply_to q file.now }
 {
     match q {
-        Question::Check => put_check(file, out),
-        Question::Count => put_count(file, out),
-        Question::Label(p) => put_label(file, p, out),
-        Question::Window(p, length) => put_window(file, p, &mut words[..length], out),
-        Question::Wrong => put(
+        Some(Question::Check) => put_answer(check(file), out),
+        Some(Question::Count) => {
+            let counted = count(file);
+            put_numbered(counted.answer, b"nodes ", counted.nodes, out);
+        }
+        Some(Question::Label(p)) => {
+            let labelled = label(file, p);
+            put_numbered(labelled.answer, b"word ", labelled.word as u64, out);
+        }
+        Some(Question::Window(p, length)) => put_window(file, p, length, out),
+        None => put(
             b"usage: ask check | count | label POSITION | window POSITION LENGTH (at most 16384), the file on standard input\n",
             out,
-            0,
         ),
     }
 }
 
-fn put_check(file: &[u8], out: &mut [u8]) -> usize
-    requires { 80 ≤ length out.old }
-    ensures { Put (reply_to Question.Check file.now) out.old 0 out.new result × (result ≤ 80) }
+// An answer, and where it is accepted a line of a name and a number.
+fn put_numbered<const N: usize>(answer: Answer, name: &[u8], n: u64, out: &mut ArrayVec<u8, N>)
+    requires { (length name.now ≤ 10) × (array_vec_len out.old + 120 ≤ N) }
+    ensures { out.new.items ≡ out.old.items ++ reply (answer_is answer) (name.now ++ decimal n ++ (10 ∷ [])) }
 {
-    put_answer(check(file), out)
-}
-
-fn put_count(file: &[u8], out: &mut [u8]) -> usize
-    requires { 120 ≤ length out.old }
-    ensures { Put (reply_to Question.Count file.now) out.old 0 out.new result × (result ≤ 120) }
-{
-    let counted = count(file);
-    let answer = counted.answer;
-    let end = put_answer(answer, out);
-    if !is_accepted(answer) {
-        return end;
+    put_answer(answer, out);
+    if is_accepted(answer) {
+        put(name, out);
+        put_decimal(n, out);
+        put(b"\n", out);
     }
-    put_number(b"nodes ", counted.nodes, out, end)
 }
 
-fn put_label(file: &[u8], p: u64, out: &mut [u8]) -> usize
-    requires { 120 ≤ length out.old }
-    ensures { Put (reply_to (Question.Label p) file.now) out.old 0 out.new result × (result ≤ 120) }
+fn put_window<const N: usize>(file: &[u8], p: u64, length: usize, out: &mut ArrayVec<u8, N>)
+    requires { (length ≤ 16384) × (array_vec_len out.old + 80 + 5 * length ≤ N) }
+    ensures { out.new.items ≡ out.old.items ++ reply_to (Some (Question.Window p length)) file.now }
 {
-    let labelled = label(file, p);
-    let answer = labelled.answer;
-    let end = put_answer(answer, out);
-    if !is_accepted(answer) {
-        return end;
-    }
-    put_number(b"word ", labelled.word as u64, out, end)
-}
-
-fn put_window(file: &[u8], p: u64, words: &mut [u16], out: &mut [u8]) -> usize
-    requires { 80 + 5 * length words.old ≤ length out.old }
-    ensures { Put (reply_to (Question.Window p (length words.old)) file.now) out.old 0 out.new result × IsPrefixLen result out.new }
-{
+    let mut words = [0; 16384];
+    let words = &mut words[..length];
     let answer = window(file, p, words);
-    let end = put_answer(answer, out);
-    if !is_accepted(answer) {
-        return end;
+    put_answer(answer, out);
+    if is_accepted(answer) {
+        put_words(words, out);
     }
-    put_words(words, out, end)
-}
-
-// A line of a name and a number.
-fn put_number(name: &[u8], n: u64, out: &mut [u8], at: usize) -> usize
-    requires { (length name.now ≤ 10) × (at + 40 ≤ length out.old) }
-    ensures { Put (name.now ++ decimal n ++ (10 ∷ [])) out.old at out.new result × (result ≤ at + 40) }
-{
-    let mut end = put(name, out, at);
-    end = put_decimal(n, out, end);
-    put(b"\n", out, end)
 }

@@ -4,9 +4,9 @@ use mathlib.Core.Path.{◌≡◌, refl, sym, ap, subst, ◌∙◌}
 use mathlib.Core.Bool.{Bool, true, false}
 use mathlib.Core.List.{List, [], ◌∷◌, ◌++◌}
 use native.Mathlib.Omega.{arith}
-use native.Mathlib.Nat.{pow-suc, one-le-pow, pow-le-pow_right, lt_of_lt_of_le}
-use borrow.Author.Tests.{lt-ltb, le-ltb, ltb-true, ltb-false, leb-true, leb-false}
-use lib.Dec.{leb, ltb, lit≤}
+use native.Mathlib.Nat.{pow-suc, one-le-pow, lt_of_lt_of_le}
+use borrow.Author.Tests.{lt-ltb, le-ltb, ltb-true, ltb-false}
+use lib.Dec.{ltb, lit≤}
 use Rattle.io.specs.Digits.{hex_digit_ascii, last_digits, IsDigitCount}
 use Rattle.text.specs.Numbers.{decimal_in, decimal}
 
@@ -63,16 +63,3 @@ decimals (suc most) n k fits f =
 pub decimal_digits : (n k : ℕ) → n < 2 ^ 64 → IsDigitCount 10 1 n k → last_digits 10 k n ≡ decimal n
 unfolding decimal
 decimal_digits n k fits f = decimals 19 n k (lt_of_lt_of_le fits (lit≤ tt)) f
-
--- of which there are at most 20
-pub twenty_digits : (n k : ℕ) → n < 2 ^ 64 → IsDigitCount 10 1 n k → k ≤ 20
-twenty_digits n k fits f = go (leb k 20) refl
-  where
-    go : (b : Bool) → leb k 20 ≡ b → k ≤ 20
-    go true e = leb-true k 20 e
-    go false e =
-        let h : 20 < k = leb-false k 20 e in
-        let l : 10 ^ (k - 1) ≤ n = f.2 (omega arith) in
-        let p : 10 ^ 20 ≤ 10 ^ (k - 1) = pow-le-pow_right (omega arith) {i = 20} {j = k - 1} (omega arith) in
-        let q : 2 ^ 64 ≤ 10 ^ 20 = lit≤ tt in
-        omega arith

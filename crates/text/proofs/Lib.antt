@@ -1,4 +1,3 @@
-pub mod Putting
 pub mod Decimals
+pub mod HexWords
 pub mod ReadingDigits
-pub mod Names

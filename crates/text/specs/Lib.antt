@@ -1,4 +1,3 @@
-pub mod Lines
 pub mod Numbers
 pub mod Answers
 pub mod Operations

@@ -1,9 +1,6 @@
 -- Numbers as text, in ASCII.
-use Rattle.std.specs.Prelude.{ℕ, zero, suc, ◌+◌, ◌-◌, ◌*◌, ◌/◌, ◌%◌, ◌^◌, true, false, cond, ◌&&◌, ◌||◌, List, [], ◌∷◌, ◌++◌, leb, ltb, eqb, length, get_or}
-use Rattle.std.proofs.Math.Option.{Option, none, some}
+use Rattle.std.specs.Prelude.{ℕ, zero, suc, ◌+◌, ◌-◌, ◌*◌, ◌/◌, ◌%◌, ◌^◌, true, false, cond, ◌&&◌, ◌||◌, List, [], ◌∷◌, ◌++◌, leb, ltb, eqb, length, get_or, Option, Some, None}
 use Rattle.io.specs.Digits.{hex_digit_ascii}
-use Rattle.text.specs.declared.numbers.Number.{Number}
-use Rattle.text.specs.declared.numbers.Number.TheVariants.{Is, Not}
 
 -- the fewest decimal digits, of at most `most`
 abbrev pub decimal_in : ℕ → ℕ → List ℕ
@@ -32,16 +29,12 @@ word_lines ws = words_to ws (length ws)
 
 -- a number with one more digit, where the byte is a digit and the number stays below 2^64
 unfoldable pub with_digit : ℕ → ℕ → Option ℕ
-with_digit n b = cond (leb 48 b && leb b 57 && ltb (10 * n + (b - 48)) (2 ^ 64)) (some (10 * n + (b - 48))) none
+with_digit n b = cond (leb 48 b && leb b 57 && ltb (10 * n + (b - 48)) (2 ^ 64)) (Some (10 * n + (b - 48))) None
 
 abbrev pub with_digits : ℕ → List ℕ → Option ℕ
-with_digits n [] = some n
-with_digits n (b ∷ bs) = elim (with_digit n b) [ none ↦ none | some m ↦ with_digits m bs ]
+with_digits n [] = Some n
+with_digits n (b ∷ bs) = elim (with_digit n b) [ None ↦ None | Some m ↦ with_digits m bs ]
 
 -- decimal text: digits alone, at least one; zeros may stand in front
 unfoldable pub number_in : List ℕ → Option ℕ
-number_in text = cond (eqb (length text) 0) none (with_digits 0 text)
-
-abbrev pub number_is : Number → Option ℕ
-number_is (Is n) = some n
-number_is Not = none
+number_in text = cond (eqb (length text) 0) None (with_digits 0 text)

@@ -1,16 +1,14 @@
-// Bytes put one after the other into a lent slice.
-ghost use Rattle.std.specs.Prelude.{◌+◌, ◌≤◌, length};
-ghost use Rattle.text.specs.Lines.{Put};
+// Bytes put one after the other at the end of what was put before.
+ghost use Rattle.std.specs.Prelude.{◌≡◌, ◌+◌, ◌≤◌, ◌++◌, length};
+ghost use Rattle.arrayvec.specs.ArrayVec.{array_vec_len};
 
-// Puts `text` at the place `at`, and answers the place after it.
-pub fn put(text: &[u8], out: &mut [u8], at: usize) -> usize
-    requires { at + length text.now ≤ length out.old }
-    ensures { Put text.now out.old at out.new result }
+use arrayvec::ArrayVec;
+
+// Puts `text` at the end of `out`.
+pub fn put<const N: usize>(text: &[u8], out: &mut ArrayVec<u8, N>)
+    requires { array_vec_len out.old + length text.now ≤ N }
+    ensures items { out.new.items ≡ out.old.items ++ text.now }
+    ensures len { array_vec_len out.new ≡ array_vec_len out.old + length text.now }
 {
-    let mut i = 0;
-    while i < text.len() {
-        out[at + i] = text[i];
-        i += 1;
-    }
-    at + i
+    out.try_extend_from_slice(text).unwrap();
 }

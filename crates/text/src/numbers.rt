@@ -1,100 +1,68 @@
 // Numbers as text, and decimal text read back.
-ghost use Rattle.std.specs.Prelude.{◌+◌, ◌*◌, ◌≤◌, ◌<◌, ◌≡◌, length};
-ghost use Rattle.io.specs.Digits.{hex_digit_ascii as glyph_of};
-ghost use Rattle.text.specs.Lines.{Put};
-ghost use Rattle.text.specs.Numbers.{decimal, hex_word, separator_after, word_lines, number_in, number_is, with_digit};
+ghost use Rattle.std.specs.Prelude.{◌+◌, ◌*◌, ◌≤◌, ◌<◌, ◌≡◌, ◌++◌, length};
+ghost use Rattle.arrayvec.specs.ArrayVec.{array_vec_len};
+ghost use Rattle.text.specs.Numbers.{decimal, hex_word, separator_after, word_lines, number_in, with_digit};
 
 use crate::lines::put;
+use arrayvec::ArrayVec;
 
 // A number in decimal digits.
-pub fn put_decimal(n: u64, out: &mut [u8], at: usize) -> usize
-    requires { at + 20 ≤ length out.old }
-    ensures { Put (decimal n) out.old at out.new result × (result ≤ at + 20) }
+pub fn put_decimal<const N: usize>(n: u64, out: &mut ArrayVec<u8, N>)
+    requires { array_vec_len out.old + 20 ≤ N }
+    ensures items { out.new.items ≡ out.old.items ++ decimal n }
+    ensures len { array_vec_len out.new ≤ array_vec_len out.old + 20 }
 {
     let mut digits = [0u8; 20];
     let k = io::decimal(n, &mut digits);
-    put(&digits[..k], out, at)
+    put(&digits[..k], out);
 }
 
 // A word in four hexadecimal digits.
-fn put_word(w: u16, out: &mut [u8], at: usize) -> usize
-    requires { at + 4 ≤ length out.old }
-    ensures { Put (hex_word w) out.old at out.new result × (result ≡ at + 4) }
+fn put_word<const N: usize>(w: u16, out: &mut ArrayVec<u8, N>)
+    requires { array_vec_len out.old + 4 ≤ N }
+    ensures items { out.new.items ≡ out.old.items ++ hex_word w }
+    ensures len { array_vec_len out.new ≡ array_vec_len out.old + 4 }
 {
-    let digits = [
-        glyph(w / 4096),
-        glyph(w / 256 % 16),
-        glyph(w / 16 % 16),
-        glyph(w % 16),
-    ];
-    put(&digits, out, at)
-}
-
-fn glyph(d: u16) -> u8
-    requires { d < 16 }
-    ensures { result ≡ glyph_of d }
-{
-    if d < 10 { 48 + d as u8 } else { 87 + d as u8 }
+    let mut digits = [0u8; 16];
+    io::hex(w as u64, 4, &mut digits);
+    put(&digits[..4], out);
 }
 
 // Words in hex, blanks between, 16 to a line.
-pub fn put_words(words: &[u16], out: &mut [u8], at: usize) -> usize
-    requires { at + 5 * length words.now ≤ length out.old }
-    ensures { Put (word_lines words.now) out.old at out.new result × (result ≡ at + 5 * length words.now) }
+pub fn put_words<const N: usize>(words: &[u16], out: &mut ArrayVec<u8, N>)
+    requires { array_vec_len out.old + 5 * length words.now ≤ N }
+    ensures items { out.new.items ≡ out.old.items ++ word_lines words.now }
+    ensures len { array_vec_len out.new ≡ array_vec_len out.old + 5 * length words.now }
 {
-    let mut end = at;
-    let mut i = 0;
-    while i < words.len() {
-        end = put_word(words[i], out, end);
-        out[end] = separator(i, words.len());
-        end += 1;
-        i += 1;
+    for (i, w) in words.iter().enumerate() {
+        put_word(*w, out);
+        out.push(separator(i, words.len()));
     }
-    end
 }
 
-// What decimal text says: a number below 2^64, or none.
-#[derive(Clone, Copy)]
-pub enum Number {
-    Is(u64),
-    Not,
-}
-
-// Digits alone, at least one.
-pub fn read_decimal(text: &[u8]) -> Number
-    ensures { number_is result ≡ number_in text.now }
+// What decimal text says: a number below 2^64. Digits alone, at least one.
+#[tactic(auto, unfolding(crate::specs::Numbers::number_in))]
+pub fn read_decimal(text: &[u8]) -> Option<u64>
+    ensures { result ≡ number_in text.now }
 {
-    if text.len() == 0 {
-        return Number::Not;
+    if text.is_empty() {
+        return None;
     }
     let mut n = 0;
-    let mut i = 0;
-    while i < text.len() {
-        let next = with_digit(n, text[i]);
-        match next {
-            Number::Is(m) => n = m,
-            Number::Not => return Number::Not,
-        }
-        i += 1;
+    for b in text {
+        n = with_digit(n, *b)?;
     }
-    Number::Is(n)
+    Some(n)
 }
 
 // The number n with one more digit.
-fn with_digit(n: u64, b: u8) -> Number
-    ensures { number_is result ≡ with_digit n b }
+fn with_digit(n: u64, b: u8) -> Option<u64>
+    ensures { result ≡ with_digit n b }
 {
-    if b < 48 {
-        return Number::Not;
+    if !b.is_ascii_digit() {
+        return None;
     }
-    if b > 57 {
-        return Number::Not;
-    }
-    let d = (b - 48) as u64;
-    if n > (u64::MAX - d) / 10 {
-        return Number::Not;
-    }
-    Number::Is(10 * n + d)
+    n.checked_mul(10)?.checked_add((b - b'0') as u64)
 }
 
 // What stands after word i of n.
@@ -102,11 +70,9 @@ fn separator(i: usize, n: usize) -> u8
     requires { i < n }
     ensures { result ≡ separator_after i n }
 {
-    if i % 16 == 15 {
-        return b'\n';
+    if i % 16 == 15 || i + 1 == n {
+        b'\n'
+    } else {
+        b' '
     }
-    if i + 1 == n {
-        return b'\n';
-    }
-    b' '
 }
