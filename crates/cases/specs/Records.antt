@@ -1,15 +1,15 @@
--- What a case says.
-use Rattle.std.specs.Prelude.{ℕ, ◌+◌, ◌*◌, ◌≤◌, ◌<◌, ◌≡◌, Bool, ◌&&◌, List, eqb, length, get_or}
+-- What a record is, and what a case says.
+use Rattle.std.specs.Prelude.{ℕ, ◌+◌, ◌*◌, ◌≤◌, ◌<◌, ◌≡◌, Bool, ◌&&◌, List, Option, Some, None, eqb, length, get_or}
 use Rattle.model.specs.Answers.{Answer}
 use Rattle.grammar.specs.Meaning.{word_in, length_in}
 use Rattle.cases.specs.declared.records.Found.{Found}
-use Rattle.cases.specs.declared.records.Found.TheVariants.{File, Case, End}
+use Rattle.cases.specs.declared.records.Found.TheVariants.{File, Case}
 
--- a payload lies within its buffer, and a case's has its five fields and is no file's
-abbrev pub Fits : Found → List ℕ → List ℕ → Type 0
-Fits (File n) file case = n ≤ length file
-Fits (Case kind n) file case = (20 ≤ n) × (n ≤ length case) × (kind ≡ 1 → ⊥)
-Fits End file case = Unit {0}
+-- a file lies within its buffer
+abbrev pub Fits : {N : ℕ} → Option (Found N) → List ℕ → Type 0
+Fits (Some (File n)) file = n ≤ length file
+Fits (Some (Case c)) file = Unit {0}
+Fits None file = Unit {0}
 
 -- the 64-bit number at a place
 abbrev pub long_in : List ℕ → ℕ → ℕ
