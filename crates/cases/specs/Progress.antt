@@ -1,5 +1,5 @@
 -- How far a run over a data file has come.
-use Rattle.std.specs.Prelude.{ℕ, ◌+◌, ◌≤◌, ◌≡◌, Bool, true, false, List, Option, Some, None}
+use Rattle.std.specs.Prelude.{ℕ, ◌+◌, ◌≡◌, Bool, true, false, List, Option, Some, None}
 use Rattle.io.specs.Counts.{IsPrefixLen}
 use Rattle.cases.specs.declared.records.Found.{Found}
 use Rattle.cases.specs.declared.records.Found.TheVariants.{File, Case}

@@ -6,72 +6,53 @@ ghost use Rattle.std.specs.Prelude.{◌+◌, ◌≤◌, ◌<◌, ◌-◌, ◌/�
 ghost use Rattle.try_vectors.specs.Right.{CheckRight, LabelRight, WindowRight, Right};
 ghost use Rattle.try_vectors.specs.Running.{Turned, RanOut};
 
+mod name;
+
+use arrayvec::ArrayVec;
 use cases::answers::is_query_answer;
 use cases::case::{Case, Kind};
 use cases::progress::Progress;
 use cases::records::{Question, words_are};
 use cases::reference::put_doubled;
-use cases::reports::{put_summary, put_wrong};
 use grammar::answers::{check, count};
+use name::Name;
 use queries::label::label;
 use queries::window::window;
 use std::fs::File;
 use std::os::fd::AsRawFd;
 use std::rt::Files;
 
-const STDOUT: i32 = 1;
-
 // The most bytes of a case's payload: its fields, and a window of 128 words.
 const PAYLOAD: usize = 276;
-
-// The name of a data file, for which a line that is printed has room.
-#[derive(Clone, Copy)]
-struct Name<'a> {
-    text: &'a str,
-    ghost short: { length text.now ≤ 64 },
-}
 
 fn main(rt: HostRuntime) {
     let mut space = [0u8; 16400];
     let file: &mut [u8] = &mut space;
-    over(&rt, Name { text: "checks" }, file, 0);
-    over(&rt, Name { text: "own_checks" }, file, 0);
-    over(&rt, Name { text: "queries" }, file, 0);
-    over(
-        &rt,
-        Name {
-            text: "own_queries",
-        },
-        file,
-        0,
-    );
-    over_doubled(
-        &rt,
-        38,
-        Name { text: "H_checks" },
-        Name { text: "H_queries" },
-        file,
-    );
+    over(&rt, Name::new("checks"), file, 0);
+    over(&rt, Name::new("own_checks"), file, 0);
+    over(&rt, Name::new("queries"), file, 0);
+    over(&rt, Name::new("own_queries"), file, 0);
+    over_doubled(&rt, 38, Name::new("H_checks"), Name::new("H_queries"), file);
     over_doubled(
         &rt,
         39,
-        Name {
-            text: "H_prime_checks",
-        },
-        Name {
-            text: "H_prime_queries",
-        },
+        Name::new("H_prime_checks"),
+        Name::new("H_prime_queries"),
         file,
     );
 }
 
-// H or H', by the rule that its start calls.
+// H or H', by the rule that its start calls. What may not change: the second run begins with as many bytes of the space, whatever the first read into
+// it. So the length goes beside the space, and no ArrayVec stands for both.
 fn over_doubled<R: Files>(rt: &R, called: u8, checks: Name, queries: Name, file: &mut [u8])
 where
     R::File: AsRawFd,
     requires { 582 ≤ length file.old }
 {
-    let n = put_doubled(called, file);
+    let mut doubled: ArrayVec<u8, 582> = ArrayVec::new();
+    put_doubled(called, &mut doubled);
+    let n = doubled.len();
+    file[..n].copy_from_slice(&doubled);
     over(rt, checks, file, n);
     over(rt, queries, file, n);
 }
@@ -86,14 +67,7 @@ where
         Ok(data) => run(name, data.as_raw_fd(), file, ready),
         Err(_) => Progress::new(ready),
     };
-    report(name, p.cases, p.wrong);
-}
-
-// How many cases there were.
-fn report(name: Name, cases: u64, wrong: u64) {
-    let mut line = [0u8; 128];
-    let n = put_summary(name.text.as_bytes(), cases, wrong, &mut line);
-    io::write_all(STDOUT, &line[..n]);
+    name.print_summary(p.cases, p.wrong);
 }
 
 // One case after the other, up to a number that no data reaches.
@@ -122,15 +96,9 @@ fn turn(name: Name, fd: i32, file: &mut [u8], p: Progress<PAYLOAD>) -> Progress<
     };
     let right = is_right(&file[..q.length], case);
     if !right {
-        print_wrong(name, q.cases);
+        name.print_wrong(q.cases);
     }
     q.judged(right)
-}
-
-fn print_wrong(name: Name, case: u64) {
-    let mut line = [0u8; 128];
-    let n = put_wrong(name.text.as_bytes(), case, &mut line);
-    io::write_all(STDOUT, &line[..n]);
 }
 
 // By the case's kind.

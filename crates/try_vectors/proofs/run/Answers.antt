@@ -1,7 +1,7 @@
 -- `run` meets its contract: the file stays within its buffer, and no turn counts more than one case.
-use Rattle.std.proofs.Common.{suc, ◌≡◌, refl, false, Option, Some, None, is_some, inl, length, add-one, rules, arith}
+use Rattle.std.proofs.Common.{suc, ◌≡◌, refl, false, Option, Some, None, is_some, inl, add-one, arith}
 use Rattle.try_vectors.proofs.Turning.{turned_counts}
-use Rattle.try_vectors.specs.Running.{Ran, not_yet, further}
+use Rattle.try_vectors.specs.Running.{not_yet, further}
 use Rattle.try_vectors.proofs.run.Goals as goal
 
 none_left : {A : Type 0} (o : Option A) → is_some o ≡ false → o ≡ None
