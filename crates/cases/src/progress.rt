@@ -1,6 +1,6 @@
 // A run over a data file: from case to case, counting.
 ghost use Rattle.std.specs.Prelude.{◌≤◌, ◌<◌, ◌≡◌, length};
-ghost use Rattle.cases.specs.Progress.{begun, with_found, judged_as, Advanced};
+ghost use Rattle.cases.specs.Progress.{begun, judged_as, Advanced};
 
 use crate::case::Case;
 use crate::records::{Found, next};
@@ -28,32 +28,27 @@ impl<const N: usize> Progress<N> {
         }
     }
 
-    // On to the next case, past a file that stands before it.
+    // On to the next case, past a file that stands before it. A case is counted; where there is none, that is the end.
     pub fn advance(self, fd: i32, file: &mut [u8]) -> Self
         requires { (self.length ≤ length file.old) × (self.cases < 1000000) }
         ensures { Advanced self.entry result file.new }
     {
-        match next(fd, file) {
-            Some(Found::File(length)) => {
-                let after = next(fd, file);
-                Progress { length, ..self }.with_found(after)
-            }
-            found => self.with_found(found),
-        }
-    }
-
-    // A case is counted; where there is none, that is the end.
-    fn with_found(self, found: Option<Found<N>>) -> Self
-        requires { self.cases < 1000000 }
-        ensures { result ≡ with_found self.entry found.entry }
-    {
+        let (length, found) = match next(fd, file) {
+            Some(Found::File(length)) => (length, next(fd, file)),
+            found => (self.length, found),
+        };
         match found {
             Some(Found::Case(case)) => Progress {
+                length,
                 case: Some(case),
                 cases: self.cases + 1,
                 ..self
             },
-            Some(Found::File(_)) | None => Progress { case: None, ..self },
+            Some(Found::File(_)) | None => Progress {
+                length,
+                case: None,
+                ..self
+            },
         }
     }
 

@@ -1,4 +1,4 @@
-// What a test program prints.
+// What a test program prints. Put, and not written by `Display`: `write!` may fail, and these functions can't.
 ghost use Rattle.std.specs.Prelude.{◌≡◌, ◌+◌, ◌≤◌, ◌++◌, length};
 ghost use Rattle.arrayvec.specs.ArrayVec.{array_vec_len};
 ghost use Rattle.cases.specs.Reports.{summary, wrong_line};

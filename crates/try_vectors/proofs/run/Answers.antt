@@ -1,12 +1,9 @@
 -- `run` meets its contract: the file stays within its buffer, and no turn counts more than one case.
-use Rattle.std.proofs.Common.{suc, ◌≡◌, refl, false, Option, Some, None, is_some, inl, add-one, arith}
+use Rattle.std.proofs.Common.{suc, inl, add-one, arith}
+use Rattle.std.proofs.lemmas.Grind.{common_steps}
 use Rattle.try_vectors.proofs.Turning.{turned_counts}
 use Rattle.try_vectors.specs.Running.{not_yet, further}
 use Rattle.try_vectors.proofs.run.Goals as goal
-
-none_left : {A : Type 0} (o : Option A) → is_some o ≡ false → o ≡ None
-none_left (Some x) e = cc
-none_left None e = refl
 
 pub loop-init : goal.loop-init
 loop-init c = rw c.new-p.ensures (not_yet, c.requires, omega arith, omega arith)
@@ -14,7 +11,7 @@ loop-init c = rw c.new-p.ensures (not_yet, c.requires, omega arith, omega arith)
 pub returns-then-is_none : goal.returns-then-is_none
 returns-then-is_none c =
     let l = c.loop in
-    record { turns = suc l.counter; ran = further l.invariant.0 c.turn-p.ensures; ended = inl (none_left _ c.if-is_none.ensures) }
+    record { turns = suc l.counter; ran = further l.invariant.0 c.turn-p.ensures; ended = inl (grind (arith, common_steps)) }
 
 pub loop-preserved : goal.loop-preserved
 loop-preserved c =
