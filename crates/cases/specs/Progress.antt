@@ -1,9 +1,10 @@
 -- How far a run over a data file has come.
-use Rattle.std.specs.Prelude.{ℕ, ◌+◌, ◌≡◌, Bool, true, false, List, Option, Some, None}
+use Rattle.std.specs.Prelude.{ℕ, ◌+◌, ◌≡◌, Bool, true, false, List, Option, Some, None, IfSome}
 use Rattle.io.specs.Counts.{IsPrefixLen}
 use Rattle.cases.specs.declared.records.Found.{Found}
 use Rattle.cases.specs.declared.records.Found.TheVariants.{File, Case}
 use Rattle.cases.specs.declared.progress.Progress.{Progress}
+use Rattle.cases.specs.Records.{IsCase}
 
 module _ {N : ℕ} where
   -- before the first case, with a file of the given length at hand
@@ -31,9 +32,14 @@ module _ {N : ℕ} where
   judged_as p true = p
   judged_as p false = record p { wrong = p.wrong + 1 }
 
+  -- the file lies within its buffer, and the case at hand is one
+  pub record Sound (p : Progress N) (file : List ℕ) : Type 0 where
+    pub file_within : IsPrefixLen p.length file
+    pub is_case : IfSome p.case IsCase
+
   -- what two reads give is not known, but all else is
   pub record Advanced (p r : Progress N) (file : List ℕ) : Type 0 where
     pub found : Option (Found N)
     pub after : Option (Found N)
     pub answer : r ≡ onwards p found after
-    pub file_within : IsPrefixLen r.length file
+    pub sound : Sound r file

@@ -1,7 +1,6 @@
 // A case: a record that asks about the file before it.
-ghost use Rattle.std.specs.Prelude.{◌≤◌, ◌≡◌};
-ghost use Rattle.arrayvec.specs.ArrayVec.{array_vec_len};
-ghost use Rattle.cases.specs.declared.case.Kind.TheVariants as kinds;
+ghost use Rattle.std.specs.Prelude.{◌≡◌};
+ghost use Rattle.cases.specs.Kinds.{kind_of};
 
 use arrayvec::ArrayVec;
 
@@ -16,8 +15,6 @@ pub enum Kind {
 }
 
 impl From<u16> for Kind {
-    ghost use Rattle.cases.specs.Kinds.{kind_of};
-
     ghost from_gives = { λ number kind. kind ≡ kind_of number };
 
     fn from(number: u16) -> Kind {
@@ -31,11 +28,9 @@ impl From<u16> for Kind {
     }
 }
 
-// A case: no file, and of at most N bytes, of which the first 20 are its fields.
+// A case with its payload, of at most N bytes.
 #[derive(Drop)]
 pub struct Case<const N: usize> {
     pub kind: Kind,
     pub payload: ArrayVec<u8, N>,
-    ghost no_file: { kind ≡ kinds.File → ⊥ },
-    ghost has_fields: { 20 ≤ array_vec_len payload },
 }

@@ -16,7 +16,7 @@ module _ {N : ℕ} where
   turned_counts p r file t =
       let q = t.next in
       let a = advanced_counts p q file t.advanced in
-      let s = t.advanced.file_within.0 in
+      let s = t.advanced.sound.file_within.0 in
       let n = answer_counts q (is_some q.case) t.right in
       rw t.answer (omega arith, omega arith, omega arith)
 

@@ -3,7 +3,8 @@
 #![tactic(auto)]
 
 ghost use Rattle.std.specs.Prelude.{◌+◌, ◌≤◌, ◌<◌, ◌-◌, ◌/◌, ◌≡◌, ◌↔◌, IsTrue, length};
-ghost use Rattle.try_vectors.specs.Right.{CheckRight, LabelRight, WindowRight, Right};
+ghost use Rattle.arrayvec.specs.ArrayVec.{array_vec_len};
+ghost use Rattle.try_vectors.specs.Right.{Right};
 ghost use Rattle.try_vectors.specs.Running.{Turned, RanOut};
 
 mod name;
@@ -101,45 +102,32 @@ fn turn(name: Name, fd: i32, file: &mut [u8], p: Progress<PAYLOAD>) -> Progress<
     q.judged(right)
 }
 
-// By the case's kind.
+// By the case's kind: the checker's answer is the case's, and so is the counter's, with its N; the label query's, with its word; the window
+// expander's, with its words, where the window has as many as the case.
+#[tactic(auto, using(crate::proofs::Judging::held))]
 fn is_right(file: &[u8], case: &Case<PAYLOAD>) -> bool
+    requires { 20 ≤ array_vec_len case.now.payload }
     ensures { IsTrue result ↔ Right case.now.kind file.now case.now.payload.items }
 {
+    let q = Question::of(&case.payload);
     match case.kind {
-        Kind::Check => check_is_right(file, case),
-        Kind::Label => label_is_right(file, case),
-        Kind::Window => window_is_right(file, case),
+        Kind::Check => {
+            let counted = count(file);
+            is_query_answer(check(file), q.number, q.place)
+                && is_query_answer(counted.answer, q.number, q.place)
+                && counted.nodes == q.value
+        }
+        Kind::Label => {
+            let labelled = label(file, q.position);
+            is_query_answer(labelled.answer, q.number, q.place) && labelled.word as u64 == q.value
+        }
+        Kind::Window => {
+            let n = (case.payload.len() - 20) / 2;
+            let mut space = [7u16; 128];
+            let words = &mut space[..n];
+            is_query_answer(window(file, q.position, words), q.number, q.place)
+                && words_are(words, &case.payload, 20)
+        }
         Kind::File | Kind::Other => false,
     }
-}
-
-// The checker's answer is the case's, and so is the counter's, with its N.
-fn check_is_right(file: &[u8], case: &Case<PAYLOAD>) -> bool
-    ensures { IsTrue result ↔ CheckRight file.now case.now.payload.items }
-{
-    let q = Question::of(&case.payload);
-    let counted = count(file);
-    is_query_answer(check(file), q.number, q.place)
-        && is_query_answer(counted.answer, q.number, q.place)
-        && counted.nodes == q.value
-}
-
-fn label_is_right(file: &[u8], case: &Case<PAYLOAD>) -> bool
-    ensures { IsTrue result ↔ LabelRight file.now case.now.payload.items }
-{
-    let q = Question::of(&case.payload);
-    let labelled = label(file, q.position);
-    is_query_answer(labelled.answer, q.number, q.place) && labelled.word as u64 == q.value
-}
-
-// The window has as many words as the case.
-fn window_is_right(file: &[u8], case: &Case<PAYLOAD>) -> bool
-    ensures { IsTrue result ↔ WindowRight ((length case.now.payload.items - 20) / 2) file.now case.now.payload.items }
-{
-    let q = Question::of(&case.payload);
-    let n = (case.payload.len() - 20) / 2;
-    let mut space = [7u16; 128];
-    let words = &mut space[..n];
-    is_query_answer(window(file, q.position, words), q.number, q.place)
-        && words_are(words, &case.payload, 20)
 }
