@@ -1,15 +1,23 @@
--- What a case says.
-use Rattle.std.specs.Prelude.{ℕ, ◌+◌, ◌*◌, ◌≤◌, ◌<◌, ◌≡◌, Bool, ◌&&◌, List, eqb, length, get_or}
+-- What a record is, and what a case says.
+use Rattle.std.specs.Prelude.{ℕ, ◌+◌, ◌*◌, ◌≤◌, ◌<◌, ◌≡◌, Bool, ◌&&◌, List, Option, Some, None, eqb, length, get_or}
 use Rattle.model.specs.Answers.{Answer}
 use Rattle.grammar.specs.Meaning.{word_in, length_in}
+use Rattle.arrayvec.specs.ArrayVec.{array_vec_len}
+use Rattle.cases.specs.declared.case.Case as cases
+use Rattle.cases.specs.declared.case.Kind.TheVariants as kinds
 use Rattle.cases.specs.declared.records.Found.{Found}
-use Rattle.cases.specs.declared.records.Found.TheVariants.{File, Case, End}
+use Rattle.cases.specs.declared.records.Found.TheVariants.{File, Case}
 
--- a payload lies within its buffer, and a case's has its five fields and is no file's
-abbrev pub Fits : Found → List ℕ → List ℕ → Type 0
-Fits (File n) file case = n ≤ length file
-Fits (Case kind n) file case = (20 ≤ n) × (n ≤ length case) × (kind ≡ 1 → ⊥)
-Fits End file case = Unit {0}
+-- a case has its five fields and is no file
+pub record IsCase {N : ℕ} (c : cases.Case N) : Type 0 where
+  pub has_fields : 20 ≤ array_vec_len c.payload
+  pub no_file : c.kind ≡ kinds.File → ⊥
+
+-- a file lies within its buffer
+abbrev pub Fits : {N : ℕ} → Option (Found N) → List ℕ → Type 0
+Fits (Some (File n)) file = n ≤ length file
+Fits (Some (Case c)) file = IsCase c
+Fits None file = Unit {0}
 
 -- the 64-bit number at a place
 abbrev pub long_in : List ℕ → ℕ → ℕ

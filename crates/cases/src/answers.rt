@@ -10,18 +10,9 @@ use text::refusals::{verdict_number, verdict_place};
 pub fn is_query_answer(a: Answer, number: u16, place: u16) -> bool
     ensures { result ≡ is_query_answer (answer_is a) number place }
 {
-    let verdict = a.verdict;
-    if verdict_number(verdict) != number as usize {
-        return false;
-    }
-    if verdict_place(verdict) != place as usize {
-        return false;
-    }
-    if a.opened != 0 {
-        return false;
-    }
-    if a.rounds != 0 {
-        return false;
-    }
-    a.length == 0
+    verdict_number(a.verdict) == usize::from(number)
+        && verdict_place(a.verdict) == usize::from(place)
+        && a.opened == 0
+        && a.rounds == 0
+        && a.length == 0
 }

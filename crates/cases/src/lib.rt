@@ -7,6 +7,7 @@
 #![tactic(auto)]
 
 pub mod answers;
+pub mod case;
 pub mod progress;
 pub mod records;
 pub mod reference;

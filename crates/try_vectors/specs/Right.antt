@@ -1,7 +1,9 @@
 -- A case is right where document 01's answers are those that it has.
-use Rattle.std.specs.Prelude.{ℕ, ◌-◌, ◌/◌, ◌≡◌, ◌⊎◌, List, length}
+use Rattle.std.specs.Prelude.{ℕ, ◌-◌, ◌/◌, ◌≡◌, List, length}
 use Rattle.model.specs.Answers.{Answer, checked, counted, label_at, window_at}
 use Rattle.grammar.specs.Meaning.{word_in}
+use Rattle.cases.specs.declared.case.Kind.{Kind}
+use Rattle.cases.specs.declared.case.Kind.TheVariants.{File, Check, Label, Window, Other}
 use Rattle.cases.specs.Records.{long_in, WordsAt}
 
 -- the answer that a case has: "the last three are 0 in a refusal or query"
@@ -21,7 +23,10 @@ abbrev pub WindowRight : ℕ → List ℕ → List ℕ → Type 0
 WindowRight size file case =
     ((window_at file (long_in case 0) size).answer ≡ answer_in case) × WordsAt (window_at file (long_in case 0) size).window case 20
 
--- by the case's kind; a window has as many words as the case
-abbrev pub Right : ℕ → List ℕ → List ℕ → Type 0
-Right kind file case =
-    ((kind ≡ 2) × CheckRight file case) ⊎ ((kind ≡ 3) × LabelRight file case) ⊎ ((kind ≡ 4) × WindowRight ((length case - 20) / 2) file case)
+-- by the case's kind, and no case of another; a window has as many words as the case
+abbrev pub Right : Kind → List ℕ → List ℕ → Type 0
+Right Check file case = CheckRight file case
+Right Label file case = LabelRight file case
+Right Window file case = WindowRight ((length case - 20) / 2) file case
+Right File file case = ⊥
+Right Other file case = ⊥
