@@ -158,9 +158,8 @@ fn spell(
     let mut t = top;
     let mut gap = 5 * r;
     let mut depth: usize = 0;
-    let mut i: usize = 0;
     starts[gap] = t as u16;
-    while i < count {
+    for i in 0..count {
         let w = word_at(file, at + 2 * i);
         let k = rank_of(table, w, n);
         let next = put_own(pieces, starts, w, t, gap);
@@ -170,7 +169,6 @@ fn spell(
         let closed = close(sizes, starts, pieces, opens, t, depth + 1);
         t = closed.top;
         depth = closed.depth;
-        i += 1;
     }
     pieces[t] = STOP;
     t + 1
@@ -190,10 +188,8 @@ pub(crate) fn build(
     ensures { Spelt file.now n n table.now sizes.now pieces.new starts.new result }
 {
     let mut top: usize = 0;
-    let mut r: usize = 0;
-    while r < n {
+    for r in 0..n {
         top = spell(file, n, table, r, sizes, pieces, starts, opens, top);
-        r += 1;
     }
     top
 }

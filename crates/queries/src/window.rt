@@ -61,11 +61,7 @@ fn outside() -> Answer
 fn refuse(out: &mut [u16])
     ensures { out.new ≡ replicate (length out.old) 65535 }
 {
-    let mut i = 0;
-    while i < out.len() {
-        out[i] = 65535;
-        i += 1;
-    }
+    out.fill(65535);
 }
 
 // The tree's words from p on, of a file that was read.
