@@ -50,14 +50,13 @@ tree_some [] t = absurd (omega (arith, t.1))
 tree_some (w ∷ ws) t = omega arith
 
 module _ {file : List ℕ} {n : ℕ} {table sizes : List ℕ} (H : Denotes file n table sizes) where
-  pub nothing_spelt : (P S : List ℕ) → length P ≡ 16384 → S ≡ replicate 1280 0 → Spelt file n 0 table sizes P S 0
-  nothing_spelt P S lp e =
+  pub nothing_spelt : Spelt file n 0 table sizes [] (replicate 1280 0)
+  nothing_spelt =
       record {
         held = H;
         spells = record { none = none_over H; plain = plain H; measured = λ g h. absurd (omega arith); slices = λ g h. absurd (omega arith) };
-        long = ap length e ∙ length-replicate {A = ℕ} 1280 0;
-        low = λ g. omega (arith, ap (λ (l : List ℕ). get_or l g 0) e, zeros_at 1280 g);
-        pieces_long = lp;
+        long = length-replicate {A = ℕ} 1280 0;
+        low = λ g. omega (arith, zeros_at 1280 g);
         room = λ h. omega (arith, first_place H);
         fits = omega arith;
       }
@@ -82,15 +81,15 @@ module _ {file : List ℕ} {n : ℕ} {table sizes : List ℕ} (H : Denotes file 
   start_some : 1 ≤ nodes (rules_of file)
   start_some = tree_some (tree_of (rules_of file)) (tree_plain (rules_of file) (named H).is_formed).tree
 
-  module _ {P S : List ℕ} {t : ℕ} (s : Spelt file n n table sizes P S t) where
+  module _ {P S : List ℕ} (s : Spelt file n n table sizes P S) where
     pub walkable : (p many : ℕ) → p + many ≤ nodes (rules_of file) → Walkable P S sizes n p many
     walkable p many h =
         record {
           G = gaps_of file;
-          top = t;
+          top = length P;
           spells = s.spells;
-          within = omega (arith, s.fits, s.pieces_long);
-          short = omega (arith, s.pieces_long);
+          within = omega arith;
+          short = s.fits;
           some_rules = H.some;
           few_rules = H.few;
           wide = H.longer;
@@ -101,7 +100,7 @@ module _ {file : List ℕ} {n : ℕ} {table sizes : List ℕ} (H : Denotes file 
 
     pub window_words : (p many : ℕ) (out : List ℕ) → length out ≡ many → Walked P S sizes n p out → out ≡ take many (drop p (tree_of (rules_of file)))
     window_words p many out l w =
-        w (gaps_of file) t s.spells (omega (arith, s.fits, s.pieces_long))
+        w (gaps_of file) (length P) s.spells (omega arith)
         ∙ ap₂ (λ (k : ℕ) (ws : List ℕ). take k (drop p ws)) l start_gap
 
 -- the model's answer

@@ -19,11 +19,10 @@ abbrev pub gaps_of : List ℕ → ℕ → List ℕ
 gaps_of file = gap_of (expansions (rules_of file))
 
 -- the first r rules are spelled
-pub record Spelt (file : List ℕ) (n r : ℕ) (table sizes pieces starts : List ℕ) (top : ℕ) : Type 0 where
+pub record Spelt (file : List ℕ) (n r : ℕ) (table sizes pieces starts : List ℕ) : Type 0 where
   pub held : Denotes file n table sizes
-  pub spells : Spelled (gaps_of file) r top pieces starts sizes
+  pub spells : Spelled (gaps_of file) r (length pieces) pieces starts sizes
   pub long : length starts ≡ 1280
-  pub low : (g : ℕ) → get_or starts g 0 ≤ top
-  pub pieces_long : length pieces ≡ 16384
-  pub room : r < n → top + 18 ≤ get_or table (3 * r + 1) 0
-  pub fits : top ≤ 16384
+  pub low : (g : ℕ) → get_or starts g 0 ≤ length pieces
+  pub room : r < n → length pieces + 18 ≤ get_or table (3 * r + 1) 0
+  pub fits : length pieces ≤ 16384

@@ -7,7 +7,7 @@ ghost use Rattle.grammar.specs.Meaning.{answer_is};
 ghost use Rattle.grammar.specs.Measures.{Denotes};
 ghost use Rattle.queries.specs.Building.{rules_of};
 
-use crate::pieces::build;
+use crate::pieces::GapStrings;
 use crate::walk::walk;
 use grammar::answers::answer_of;
 use grammar::read::read;
@@ -69,9 +69,6 @@ fn expand(file: &[u8], n: usize, table: &[u16], sizes: &[u64], p: u64, out: &mut
     requires { Denotes file.now n table.now sizes.now × (p + length out.old ≤ nodes (rules_of file.now)) }
     ensures { out.new ≡ take (length out.old) (drop p (tree_of (rules_of file.now))) }
 {
-    let mut pieces = [0u16; 16384];
-    let mut starts = [0u16; 1280];
-    let mut opens = [0u16; 8192];
-    build(file, n, table, sizes, &mut pieces, &mut starts, &mut opens);
-    walk(&pieces, &starts, sizes, n, p, out);
+    let strings = GapStrings::new(file, n, table, sizes);
+    walk(&strings, n, p, out);
 }
