@@ -8,7 +8,7 @@ use mathlib.Core.List.{List, [], ◌∷◌, ◌++◌, append_assoc, append-nil}
 use lib.Dec.{leb}
 use lib.ListN.{length, take, drop, get_or, length-append}
 use borrow.Author.Tests.{leb-true, leb-false, lt-leb, le-leb}
-use Rattle.std.specs.Prelude.{Option, Some, None, option_to_list, IsSome, is_some}
+use Rattle.std.specs.Prelude.{Option, Some, None, option_to_list, IfNone, IsSome, is_some}
 use Rattle.std.proofs.lemmas.List.Elements.{All-append, All-cons, All-nil, All-pop}
 use Rattle.std.proofs.lemmas.List.Sums.{sum_by-append, sum_by-cons}
 use Rattle.model.specs.Trees.{join}
@@ -197,16 +197,18 @@ module _ {S sizes P₀ P : List ℕ} {O₀ : List Open} (O : List Open) (e : Ope
             );
       }
 
-no_words_open : (O : List Open) → length O ≡ 0 → O ≡ []
-no_words_open [] h = refl
-no_words_open (e ∷ O) h = absurd (omega arith)
+-- the open words once one was taken, if there was one: none where there was none
+pub all_taken : (O O' : List Open) (o : Option Open) → O ≡ O' ++ option_to_list o → (0 < length O → IsSome o) → IfNone o (O' ≡ [])
+all_taken O O' (Some e) was some = tt
+all_taken [] O' None was some = sym (was ∙ append-nil O')
+all_taken (e ∷ O) O' None was some = let f : false ≡ true = some (omega arith) in let z : ⊥ = cc in absurd z
 
--- nothing was open any more
-pub turn_over : {S sizes P₀ P : List ℕ} {O₀ O : List Open} (O' : List Open) → Closes Now S sizes P₀ O₀ P O → O ≡ O' ++ [] → length O ≡ 0 → Closes after S sizes P₀ O₀ P O'
-turn_over {S} {sizes} {P₀} {P} {O₀} {O} O' x e z =
-    let n : O ≡ [] = no_words_open O z in
-    let m : [] ≡ O' = sym n ∙ e ∙ append-nil O' in
-    subst (λ (os : List Open). Closes after S sizes P₀ O₀ P os) m (closes_end (subst (λ (os : List Open). Closes Now S sizes P₀ O₀ P os) n x))
+-- nothing is open any more
+pub turn_over : {S sizes P₀ P : List ℕ} {O₀ : List Open} (O : List Open) (o : Option Open) → o ≡ None → IfNone o (O ≡ []) → Closes Now S sizes P₀ O₀ P (O ++ option_to_list o) → Closes after S sizes P₀ O₀ P O
+turn_over {S} {sizes} {P₀} {P} {O₀} O o e open_none x =
+    let none : O ≡ [] = subst (λ (v : Option Open). IfNone v (O ≡ [])) e open_none in
+    let last : O ++ option_to_list o ≡ [] = ap (λ (v : Option Open). O ++ option_to_list v) e ∙ append-nil O ∙ none in
+    subst (λ (os : List Open). Closes after S sizes P₀ O₀ P os) (sym none) (closes_end (subst (λ (os : List Open). Closes Now S sizes P₀ O₀ P os) last x))
 
 -- a turn in the values that the code has: what it asks, by what closing asks, and what it leaves
 module _ {S sizes P₀ P : List ℕ} {O₀ O₁ : List Open} (O : List Open) (e : Open) (C : Closable sizes S P₀ O₀) (x : Closes Now S sizes P₀ O₀ P O₁) (was : O₁ ≡ O ++ e ∷ []) where

@@ -1,5 +1,5 @@
 // A grammar's bodies as gap strings.
-ghost use Rattle.std.specs.Prelude.{◌≡◌, ℕ, suc, ◌+◌, ◌*◌, ◌≤◌, ◌<◌, [], ◌++◌, length, get_or, IsSome, replicate, MatchOption, option_to_list};
+ghost use Rattle.std.specs.Prelude.{◌≡◌, ℕ, suc, ◌+◌, ◌*◌, ◌≤◌, ◌<◌, [], ◌∷◌, ◌++◌, length, get_or, IsSome, replicate, MatchOption, option_to_list};
 ghost use Rattle.arrayvec.specs.ArrayVec.{array_vec_len};
 ghost use Rattle.queries.specs.Pieces.{PieceIs, due, next_gap, code_for, after, Closes, Closable, first_gap, own, own_gap, own_starts};
 ghost use Rattle.queries.specs.Building.{Spelt};
@@ -116,45 +116,50 @@ impl<'a> GapStrings<'a> {
         opens.clear();
         for i in 0..words(table, r) {
             let w = word_at(file, at + 2 * i);
-            put(&mut self.pieces, own_piece(w));
-            gap = self.start_after(w, gap);
-            opens.push(Open::new(w, rank_of(table, w, n)));
-            self.close(opens);
+            gap = self.put_own(w, gap);
+            self.close(Open::new(w, rank_of(table, w, n)), opens);
         }
-        self.pieces.push(STOP);
+        self.pieces.push(STOP); // of the rule's last gap
     }
 
-    // After a parameter the next gap starts; says which gap is put from here on.
-    fn start_after(&mut self, w: u16, gap: usize) -> usize
-        requires { (gap < 1280) × (own_gap w gap < 1280) }
+    // Puts what a word of a body itself gives: a label or ⊥ is its own piece, and a parameter ends a gap, so that the next one starts. Says which gap is put then.
+    fn put_own(&mut self, w: u16, gap: usize) -> usize
+        requires { (array_vec_len self.old.pieces < 16384) × (gap < 1280) × (own_gap w gap < 1280) }
         ensures gap_value { result ≡ own_gap w gap }
-        ensures starts_after { self.new.starts ≡ own_starts w self.old.starts gap (array_vec_len self.old.pieces) }
-        ensures pieces_kept { self.new.pieces.items ≡ self.old.pieces.items }
+        ensures pieces_after { self.new.pieces.items ≡ self.old.pieces.items ++ own w }
+        ensures starts_after { self.new.starts ≡ own_starts w self.old.starts gap (array_vec_len self.new.pieces) }
         ensures sizes_kept { self.new.sizes.now ≡ self.old.sizes.now }
     {
         match sort(w) {
+            Word::Call(_) => gap,
             Word::Parameter(_) => {
+                self.pieces.push(STOP);
                 self.starts[gap + 1] = self.pieces.len() as u16;
                 gap + 1
             }
-            Word::Empty | Word::Label | Word::Call(_) | Word::Illegal => gap,
+            Word::Empty | Word::Label | Word::Illegal => {
+                self.pieces.push(w);
+                gap
+            }
         }
     }
 
-    // A gap of the lowest open word is due: puts it, and goes on upwards where it was the word's last.
-    fn close(&mut self, opens: &mut ArrayVec<Open, 8192>)
-        requires { Closable self.old.sizes.now self.old.starts self.old.pieces.items opens.old.items }
-        ensures closes { Closes after self.old.starts self.old.sizes.now self.old.pieces.items opens.old.items self.new.pieces.items opens.new.items }
+    // A gap of `word`, the lowest open word, is due: puts it, and goes on upwards where it was the word's last.
+    fn close(&mut self, word: Open, opens: &mut ArrayVec<Open, 8192>)
+        requires { Closable self.old.sizes.now self.old.starts self.old.pieces.items (opens.old.items ++ word ∷ []) }
+        ensures closes { Closes after self.old.starts self.old.sizes.now self.old.pieces.items (opens.old.items ++ word ∷ []) self.new.pieces.items opens.new.items }
         ensures starts_kept { self.new.starts ≡ self.old.starts }
         ensures sizes_kept { self.new.sizes.now ≡ self.old.sizes.now }
     {
-        while let Some(word) = opens.pop() {
-            let piece = self.piece_for(word);
+        let mut due = Some(word);
+        while let Some(lowest) = due {
+            let piece = self.piece_for(lowest);
             put(&mut self.pieces, piece);
-            if let Some(next) = word.next() {
+            if let Some(next) = lowest.next() {
                 opens.push(next);
                 return;
             }
+            due = opens.pop();
         }
     }
 
@@ -173,17 +178,6 @@ impl<'a> GapStrings<'a> {
             return Some(self.pieces[s]);
         }
         Some(32768 + g as u16)
-    }
-}
-
-// What a word of a body itself gives: a label or ⊥ is its own piece, and a parameter ends a gap.
-fn own_piece(w: u16) -> Option<u16>
-    ensures { option_to_list result ≡ own w }
-{
-    match sort(w) {
-        Word::Call(_) => None,
-        Word::Parameter(_) => Some(STOP),
-        Word::Empty | Word::Label | Word::Illegal => Some(w),
     }
 }
 

@@ -1,11 +1,7 @@
 -- `queries::pieces::GapStrings::spell` meets its contract: word by word, by the turns over the rule's body.
 use native.Mathlib.Omega.{arith}
-use mathlib.Core.Path.{◌≡◌, refl, sym, ap, ◌∙◌}
-use mathlib.Core.List.{◌++◌}
-use lib.ListN.{length}
-use Rattle.queries.proofs.SpellFile.{body_next, place_fits, first_turn, word_fits, gap_fits, opens_fit, first_low, rank_small, close_asks, next_turn, stop_fits, rule_over}
-use Rattle.queries.specs.Pieces.{own, own_starts}
-use Rattle.queries.proofs.pieces.GapStrings.spell.Goals.{After-start_after-gap}
+use mathlib.Core.Path.{refl, ◌∙◌}
+use Rattle.queries.proofs.SpellFile.{body_next, place_fits, first_turn, word_fits, gap_fits, first_low, rank_small, close_asks, next_turn, stop_fits, rule_over}
 use Rattle.queries.proofs.pieces.GapStrings.spell.Goals as goal
 
 pub loop-i-init : goal.loop-i-init
@@ -16,13 +12,11 @@ loop-i-init c =
 pub word_at-w-requires : goal.word_at-w-requires
 word_at-w-requires c = omega (arith, place_fits c.loop-i.invariant.body)
 
-pub put-requires : goal.put-requires
-put-requires c =
-    let x = c.loop-i.invariant in λ some. word_fits x.body x.turn c.loop-i-test.true c.word_at-w.result c.word_at-w.ensures
-
-pub start_after-gap-requires : goal.start_after-gap-requires
-start_after-gap-requires c =
-    let x = c.loop-i.invariant in gap_fits x.body x.turn c.loop-i-test.true c.word_at-w.result c.word_at-w.ensures
+pub put_own-gap-requires : goal.put_own-gap-requires
+put_own-gap-requires c =
+    let x = c.loop-i.invariant in
+    let g = gap_fits x.body x.turn c.loop-i-test.true c.word_at-w.result c.word_at-w.ensures in
+    (word_fits x.body x.turn c.loop-i-test.true c.word_at-w.result c.word_at-w.ensures, g.0, g.1)
 
 pub new-requires : goal.new-requires
 new-requires c =
@@ -31,42 +25,28 @@ new-requires c =
       first_low x.body x.turn c.loop-i-test.true c.word_at-w.result c.word_at-w.ensures,
     )
 
-pub push-requires : goal.push-requires
-push-requires c =
-    let x = c.loop-i.invariant in (omega arith, opens_fit x.body x.turn c.loop-i-test.true c.word_at-w.result c.word_at-w.ensures)
-
--- the pieces once the word's own piece is put
-put_own : (c : After-start_after-gap) → c.start_after-gap.new.self.pieces.items ≡ c.loop-i.self.pieces.items ++ own c.word_at-w.result
-put_own c = c.start_after-gap.ensures.pieces_kept ∙ c.put.ensures ∙ ap (λ l. c.loop-i.self.pieces.items ++ l) c.own_piece.ensures
-
--- and where gaps start
-starts_put : (c : After-start_after-gap) → c.start_after-gap.new.self.starts ≡ own_starts c.word_at-w.result c.loop-i.self.starts c.loop-i.gap (length c.start_after-gap.new.self.pieces.items)
-starts_put c = c.start_after-gap.ensures.starts_after ∙ ap (λ p. own_starts c.word_at-w.result c.loop-i.self.starts c.loop-i.gap (length p)) (sym c.start_after-gap.ensures.pieces_kept)
-
 pub close-requires : goal.close-requires
 close-requires c =
     let x = c.loop-i.invariant in
     close_asks x.body x.turn c.loop-i-test.true c.word_at-w.result c.word_at-w.ensures c.rank_of.result c.rank_of.ensures c.new.result c.new.ensures.0 c.new.ensures.1
-    _ _ _ _ (put_own (goal.at.close-requires c).After-start_after-gap) (starts_put (goal.at.close-requires c).After-start_after-gap)
-    (c.start_after-gap.ensures.sizes_kept ∙ x.sizes_kept) c.push.ensures.items
+    _ _ _ _ c.put_own-gap.ensures.pieces_after c.put_own-gap.ensures.starts_after (c.put_own-gap.ensures.sizes_kept ∙ x.sizes_kept) refl
 
 pub loop-i-preserved : goal.loop-i-preserved
 loop-i-preserved c =
     let x = c.loop-i.invariant in
-    let s = c.start_after-gap.ensures.sizes_kept ∙ x.sizes_kept in
+    let s = c.put_own-gap.ensures.sizes_kept ∙ x.sizes_kept in
     record {
       body = x.body;
       turn =
           next_turn x.body x.turn c.loop-i-test.true c.word_at-w.result c.word_at-w.ensures c.rank_of.result c.rank_of.ensures c.new.result c.new.ensures.0 c.new.ensures.1
-          _ _ _ _ (put_own (goal.at.loop-i-preserved c).After-start_after-gap) (starts_put (goal.at.loop-i-preserved c).After-start_after-gap) s c.push.ensures.items
-          _ _ _ _ c.close.ensures.closes c.close.ensures.starts_kept c.start_after-gap.ensures.gap_value;
+          _ _ _ _ c.put_own-gap.ensures.pieces_after c.put_own-gap.ensures.starts_after s refl _ _ _ _ c.close.ensures.closes c.close.ensures.starts_kept c.put_own-gap.ensures.gap_value;
       sizes_kept = c.close.ensures.sizes_kept ∙ s;
     }
 
-pub push-requires-2 : goal.push-requires-2
-push-requires-2 c =
+pub push-requires : goal.push-requires
+push-requires c =
     let x = c.loop-i.invariant in (omega arith, stop_fits x.body x.turn c.loop-i-test.false)
 
 pub returns-clause-spelt : goal.returns-clause-spelt
 returns-clause-spelt c =
-    let x = c.loop-i.invariant in rule_over x.body x.turn c.loop-i-test.false _ _ c.push-2.ensures.items x.sizes_kept
+    let x = c.loop-i.invariant in rule_over x.body x.turn c.loop-i-test.false _ _ c.push.ensures.items x.sizes_kept
