@@ -7,8 +7,8 @@ ghost use Rattle.queries.specs.Building.{Spelt};
 use arrayvec::ArrayVec;
 use grammar::bodies::rank_of;
 use grammar::file::word_at;
-use grammar::rules::{place, words};
-use grammar::words::{Word, sort};
+use grammar::rules::Entry;
+use grammar::words::Word;
 
 // The piece that ends a gap.
 pub const STOP: u16 = 65535;
@@ -42,7 +42,7 @@ impl Open {
         requires { (rank ≤ 4) × (first_gap w ≤ 1280) }
         ensures { (due result ≡ rank + 1) × (next_gap result ≡ first_gap w) }
     {
-        let gap = match sort(w) {
+        let gap = match Word::from(w) {
             Word::Call(j) => 5 * j,
             Word::Empty | Word::Label | Word::Parameter(_) | Word::Illegal => 1280,
         };
@@ -79,10 +79,10 @@ pub(crate) struct GapStrings<'a> {
 }
 
 impl<'a> GapStrings<'a> {
-    // The gaps of all n rules as pieces.
-    pub(crate) fn new(file: &[u8], n: usize, table: &[u16], sizes: &'a [u64]) -> Self
-        requires { Spelt file.now n 0 table.now sizes.now [] (replicate 1280 0) }
-        ensures spelt { Spelt file.now n n table.now result.sizes.now result.pieces.items result.starts }
+    // The gaps of all these rules of the file as pieces.
+    pub(crate) fn new(file: &[u8], rules: &[Entry], sizes: &'a [u64]) -> Self
+        requires { Spelt file.now 0 rules.now sizes.now [] (replicate 1280 0) }
+        ensures spelt { Spelt file.now (length rules.now) rules.now result.sizes.now result.pieces.items result.starts }
         ensures sizes_kept { result.sizes.now ≡ sizes.now }
     {
         let mut strings = GapStrings {
@@ -91,33 +91,26 @@ impl<'a> GapStrings<'a> {
             pieces: ArrayVec::new(),
         };
         let mut opens = ArrayVec::new();
-        for r in 0..n {
-            strings.spell(file, n, table, r, &mut opens);
+        for r in 0..rules.len() {
+            strings.spell(file, rules, r, &mut opens);
         }
         strings
     }
 
-    // The gaps of rule r of n rules as pieces, after those of the rules below it.
-    fn spell(
-        &mut self,
-        file: &[u8],
-        n: usize,
-        table: &[u16],
-        r: usize,
-        opens: &mut ArrayVec<Open, 8192>,
-    )
-        requires { Spelt file.now n r table.now self.old.sizes.now self.old.pieces.items self.old.starts × (r < n) }
-        ensures spelt { Spelt file.now n (suc r) table.now self.new.sizes.now self.new.pieces.items self.new.starts }
+    // The gaps of rule r as pieces, after those of the rules below it.
+    fn spell(&mut self, file: &[u8], rules: &[Entry], r: usize, opens: &mut ArrayVec<Open, 8192>)
+        requires { Spelt file.now r rules.now self.old.sizes.now self.old.pieces.items self.old.starts × (r < length rules.now) }
+        ensures spelt { Spelt file.now (suc r) rules.now self.new.sizes.now self.new.pieces.items self.new.starts }
         ensures sizes_kept { self.new.sizes.now ≡ self.old.sizes.now }
     {
-        let at = place(table, r);
+        let body = rules[r].body(file);
         let mut gap = 5 * r;
         self.starts[gap] = self.pieces.len() as u16;
         opens.clear();
-        for i in 0..words(table, r) {
-            let w = word_at(file, at + 2 * i);
+        for i in 0..body.len() / 2 {
+            let w = word_at(body, 2 * i);
             gap = self.put_own(w, gap);
-            self.close(Open::new(w, rank_of(table, w, n)), opens);
+            self.close(Open::new(w, rank_of(rules, w)), opens);
         }
         self.pieces.push(STOP); // of the rule's last gap
     }
@@ -130,7 +123,7 @@ impl<'a> GapStrings<'a> {
         ensures starts_after { self.new.starts ≡ own_starts w self.old.starts gap (array_vec_len self.new.pieces) }
         ensures sizes_kept { self.new.sizes.now ≡ self.old.sizes.now }
     {
-        match sort(w) {
+        match Word::from(w) {
             Word::Call(_) => gap,
             Word::Parameter(_) => {
                 self.pieces.push(STOP);

@@ -9,6 +9,6 @@ use Rattle.queries.proofs.pieces.GapStrings.new.Goals as goal
 pub loop-r-init : goal.loop-r-init
 loop-r-init c =
     record {
-      spelt = subst (λ (p : List ℕ). Spelt c.args.file.now c.args.n 0 c.args.table.now c.args.sizes.now p (replicate 1280 0)) (sym c.new.ensures) c.requires;
+      spelt = subst (λ (p : List ℕ). Spelt c.args.file.now 0 c.args.rules.now c.args.sizes.now p (replicate 1280 0)) (sym c.new.ensures) c.requires;
       sizes_kept = refl;
     }

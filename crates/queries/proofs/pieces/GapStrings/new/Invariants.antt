@@ -5,6 +5,6 @@ use Rattle.queries.proofs.pieces.GapStrings.new.Given as goal
 
 abbrev pub invariant-loop-r : goal.invariant-loop-r
 invariant-loop-r l = record {
-  spelt : Spelt l.file l.n l.r l.table l.sizes l.strings.pieces.items l.strings.starts;
+  spelt : Spelt l.file l.r l.rules l.sizes l.strings.pieces.items l.strings.starts;
   sizes_kept : l.strings.sizes.now ≡ l.sizes;
 }

@@ -1,16 +1,20 @@
 -- `queries::pieces::GapStrings::spell` meets its contract: word by word, by the turns over the rule's body.
 use native.Mathlib.Omega.{arith}
 use mathlib.Core.Path.{refl, ◌∙◌}
-use Rattle.queries.proofs.SpellFile.{body_next, place_fits, first_turn, word_fits, gap_fits, first_low, rank_small, close_asks, next_turn, stop_fits, rule_over}
+use Rattle.queries.proofs.HeldRules.{rule_fits, rules_few}
+use Rattle.queries.proofs.SpellFile.{body_next, first_turn, word_fits, gap_fits, first_low, rank_small, close_asks, next_turn, stop_fits, rule_over}
 use Rattle.queries.proofs.pieces.GapStrings.spell.Goals as goal
+
+pub body-body-requires : goal.body-body-requires
+body-body-requires c = rule_fits c.requires.0.held _ c.requires.1
+
+pub bounds-self-gap : goal.bounds-self-gap
+bounds-self-gap c = omega (arith, rules_few c.requires.0.held)
 
 pub loop-i-init : goal.loop-i-init
 loop-i-init c =
-    let b = body_next c.requires.0 c.requires.1 c.place-at.ensures c.words-i-end.ensures in
+    let b = body_next c.requires.0 c.requires.1 c.body-body.ensures in
     record { body = b; turn = first_turn b c.requires.0 refl _ c.clear.ensures _ c.len.ensures.value; sizes_kept = refl }
-
-pub word_at-w-requires : goal.word_at-w-requires
-word_at-w-requires c = omega (arith, place_fits c.loop-i.invariant.body)
 
 pub put_own-gap-requires : goal.put_own-gap-requires
 put_own-gap-requires c =

@@ -6,7 +6,7 @@ use Rattle.queries.proofs.pieces.GapStrings.spell.Given as goal
 
 abbrev pub invariant-loop-i : goal.invariant-loop-i
 invariant-loop-i l = record {
-  body : Body l.file l.n l.r l.table l.fn.self.sizes.now (length l.fn.self.pieces.items) l.at l.i-end;
+  body : Body l.file l.r l.rules l.fn.self.sizes.now (length l.fn.self.pieces.items) l.body;
   turn : RuleTurn l.file l.r (length l.fn.self.pieces.items) l.fn.self.sizes.now l.self.pieces.items l.self.starts l.opens.items l.gap l.i;
   sizes_kept : l.self.sizes.now ≡ l.fn.self.sizes.now;
 }
