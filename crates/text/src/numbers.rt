@@ -5,16 +5,16 @@ ghost use Rattle.text.specs.Numbers.{decimal, hex_word, separator_after, word_li
 
 use crate::lines::put;
 use arrayvec::ArrayVec;
+use itoa::Buffer;
 
 // A number in decimal digits.
+#[tactic(auto, using(crate::proofs::Decimals::decimal_is))]
 pub fn put_decimal<const N: usize>(n: u64, out: &mut ArrayVec<u8, N>)
     requires { array_vec_len out.old + 20 ≤ N }
     ensures items { out.new.items ≡ out.old.items ++ decimal n }
     ensures len { array_vec_len out.new ≤ array_vec_len out.old + 20 }
 {
-    let mut digits = [0u8; 20];
-    let k = io::decimal(n, &mut digits);
-    put(&digits[..k], out);
+    put(Buffer::new().format(n).as_bytes(), out);
 }
 
 // A word in four hexadecimal digits.
@@ -24,7 +24,7 @@ fn put_word<const N: usize>(w: u16, out: &mut ArrayVec<u8, N>)
     ensures len { array_vec_len out.new ≡ array_vec_len out.old + 4 }
 {
     let mut digits = [0u8; 16];
-    io::hex(w as u64, 4, &mut digits);
+    io::hex(u64::from(w), 4, &mut digits);
     put(&digits[..4], out);
 }
 
@@ -40,7 +40,7 @@ pub fn put_words<const N: usize>(words: &[u16], out: &mut ArrayVec<u8, N>)
     }
 }
 
-// What decimal text says: a number below 2^64. Digits alone, at least one.
+// What decimal text says: a number below 2^64. Digits alone, at least one; `parse` would take a sign too.
 #[tactic(auto, unfolding(crate::specs::Numbers::number_in))]
 pub fn read_decimal(text: &[u8]) -> Option<u64>
     ensures { result ≡ number_in text.now }
@@ -59,10 +59,8 @@ pub fn read_decimal(text: &[u8]) -> Option<u64>
 fn with_digit(n: u64, b: u8) -> Option<u64>
     ensures { result ≡ with_digit n b }
 {
-    if !b.is_ascii_digit() {
-        return None;
-    }
-    n.checked_mul(10)?.checked_add((b - b'0') as u64)
+    let digit = char::from(b).to_digit(10)?;
+    n.checked_mul(10)?.checked_add(u64::from(digit))
 }
 
 // What stands after word i of n.
