@@ -5,14 +5,13 @@ use mathlib.Core.Bool.{Bool, true, false, ◌&&◌}
 use mathlib.Core.List.{List, [], ◌∷◌}
 use native.Mathlib.Omega.{arith}
 use lib.Dec.{T, leb, eqb, leb→le, le→leb, eqb→eq}
-use lib.ListN.{length, drop, get_or, length-drop}
+use lib.ListN.{length, drop, length-drop}
 use borrow.Author.Tests.{eq-eqb}
 use mir.Facts.{and_yes, yes_and}
-use native.Mathlib.Decide.{dec_lt}
 use Rattle.model.specs.Words.{Class, class_of, rank_of, rank_as}
 use Rattle.model.specs.Trees.{roots, children_there, is_tree}
+use Rattle.grammar.specs.declared.rules.Entry.{Entry}
 use Rattle.grammar.specs.Meaning.{ranks_in, RanksSmall}
-use Rattle.grammar.proofs.Tables.{rank_in, rank_past}
 
 abbrev pub due_ok : List ℕ → ℕ → List ℕ → Bool
 due_ok ranks due [] = eqb 0 due
@@ -63,18 +62,14 @@ due_trees ranks (suc due) (w ∷ ws) =
         yes_and (children_there ranks ws) (eqb len (due + k)) ((and_yes (leb k len) (children_there ranks ws) l).1) (eq→eqb len (due + k) (omega (arith, length-drop k (roots ranks ws))))
 
 -- a word's rank by the table is at most 4
-pub rank_small : (r : ℕ) (table : List ℕ) → RanksSmall r table → (w : ℕ) → rank_of (ranks_in r table) w ≤ 4
-rank_small r table small w = go (class_of w)
+pub rank_small : (rules : List Entry) → RanksSmall rules → (w : ℕ) → rank_of (ranks_in rules) w ≤ 4
+rank_small rules small w = go (class_of w)
   where
-    at : (j : ℕ) → Dec (j < r) → get_or (ranks_in r table) j 0 ≤ 4
-    at j (yes h) = rw rank_in (small j h)
-    at j (no h) = rw (rank_past r table j (omega arith)) (omega arith)
-
-    go : (c : Class) → rank_as (ranks_in r table) c ≤ 4
+    go : (c : Class) → rank_as (ranks_in rules) c ≤ 4
     go Class.empty = omega arith
     go Class.label = omega arith
     go (Class.parameter i) = omega arith
-    go (Class.call j) = at j (dec_lt j r)
+    go (Class.call j) = small j
     go Class.illegal = omega arith
 
 -- the count along a body ws, as the loop over it goes

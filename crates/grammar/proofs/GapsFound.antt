@@ -30,7 +30,7 @@ pub record SoFar (rules : List Rule) (r len i last m : ℕ) (sizes : List ℕ) :
   pub next : m ≡ 5 * r + passed rules r i
   pub up_to : last ≡ size_before (passed rules r i) (get_or (expansions rules) r [])
   pub long : length sizes ≡ len
-  pub rows : sizes ≡ padded len (gap_rows (take r (expansions rules)) ++ take (passed rules r i) (gap_sizes (get_or (expansions rules) r [])))
+  pub rows : sizes ≡ padded 0 len (gap_rows (take r (expansions rules)) ++ take (passed rules r i) (gap_sizes (get_or (expansions rules) r [])))
   pub small : SizesSmall sizes
 
 pub so_same : {rules : List Rule} {r len i last m : ℕ} {sizes : List ℕ} → SoFar rules r len i last m sizes
@@ -106,7 +106,7 @@ module _ (rules : List Rule) (f : T (formed rules)) (r : ℕ) (below : r < lengt
         next = omega arith;
         up_to = refl;
         long = refl;
-        rows = B.rows ∙ ap (padded (length sizes)) (sym (append-nil (gap_rows (take r E))));
+        rows = B.rows ∙ ap (padded 0 (length sizes)) (sym (append-nil (gap_rows (take r E))));
         small = B.small;
       }
 
@@ -116,7 +116,7 @@ module _ (rules : List Rule) (f : T (formed rules)) (r : ℕ) (below : r < lengt
 
     -- the next gap in its place
     stored : (v : ℕ) → v ≡ get_or (gap_sizes e) (passed rules r i) 0
-        → set sizes m v ≡ padded len (gap_rows (take r E) ++ take (suc (passed rules r i)) (gap_sizes e))
+        → set sizes m v ≡ padded 0 len (gap_rows (take r E) ++ take (suc (passed rules r i)) (gap_sizes e))
     stored v g =
         let k = passed rules r i in
         let rows = gap_rows (take r E) in
@@ -132,7 +132,7 @@ module _ (rules : List Rule) (f : T (formed rules)) (r : ℕ) (below : r < lengt
         ) in
         ap (λ (s : List ℕ). set s m v) S.rows
         ∙ store_next len (rows ++ take k (gap_sizes e)) m v n (omega (arith, next_room))
-        ∙ ap (padded len)
+        ∙ ap (padded 0 len)
         (append_assoc rows (take k (gap_sizes e)) (v ∷ [])
         ∙ ap (λ (l : List ℕ). rows ++ l)
         (ap (λ (w : ℕ). take k (gap_sizes e) ++ w ∷ []) g ∙ sym (take-suc (gap_sizes e) k 0 few)))
@@ -145,7 +145,7 @@ module _ (rules : List Rule) (f : T (formed rules)) (r : ℕ) (below : r < lengt
           next = omega (arith, S.next);
           up_to = S.up_to ∙ ap (λ (j : ℕ). size_before j e) k;
           long = S.long;
-          rows = S.rows ∙ ap (λ (j : ℕ). padded len (gap_rows (take r E) ++ take j (gap_sizes e))) k;
+          rows = S.rows ∙ ap (λ (j : ℕ). padded 0 len (gap_rows (take r E) ++ take j (gap_sizes e))) k;
           small = S.small;
         }
 
@@ -163,7 +163,7 @@ module _ (rules : List Rule) (f : T (formed rules)) (r : ℕ) (below : r < lengt
               next = omega (arith, S.next);
               up_to = q ∙ ap (λ (j : ℕ). size_before j e) k;
               long = length-set sizes m (b - last) ∙ S.long;
-              rows = stored (b - last) (omega arith) ∙ ap (λ (j : ℕ). padded len (gap_rows (take r E) ++ take j (gap_sizes e))) k;
+              rows = stored (b - last) (omega arith) ∙ ap (λ (j : ℕ). padded 0 len (gap_rows (take r E) ++ take j (gap_sizes e))) k;
               small = small_set sizes m (b - last) S.small (omega arith);
             },
           )
@@ -181,9 +181,9 @@ module _ (rules : List Rule) (f : T (formed rules)) (r : ℕ) (below : r < lengt
             record {
               rows =
                   stored v (omega arith)
-                  ∙ ap (λ (l : List ℕ). padded len (gap_rows (take r E) ++ l)) (take_all (suc (passed rules r i)) (gap_sizes e) (omega (arith, gaps_count)))
+                  ∙ ap (λ (l : List ℕ). padded 0 len (gap_rows (take r E) ++ l)) (take_all (suc (passed rules r i)) (gap_sizes e) (omega (arith, gaps_count)))
                   ∙ rows_more len E r there (omega (arith, gaps_count, rank_most)) room
-                  ∙ ap (λ (n : ℕ). padded n (gap_rows (take (suc r) E))) (sym long);
+                  ∙ ap (λ (n : ℕ). padded 0 n (gap_rows (take (suc r) E))) (sym long);
               small = small_set sizes m v S.small (omega arith);
             },
           )

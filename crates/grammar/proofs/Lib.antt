@@ -6,10 +6,11 @@ pub mod Tests
 pub mod Due
 pub mod SubtreeEnd
 pub mod Order
+pub mod Summing
 pub mod Obeying
 pub mod Refusing
+pub mod Placing
 pub mod Records
-pub mod Gaps
 pub mod ReadRecords
 pub mod ReadWhole
 pub mod ReadLaws

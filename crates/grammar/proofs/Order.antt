@@ -8,35 +8,50 @@ use mathlib.Core.Logic.{◌⊎◌, inl, inr}
 use native.Mathlib.Omega.{arith}
 use lib.Dec.{ltb}
 use borrow.Author.Tests.{eq-eqb, ne_eqb, lt-ltb, le-ltb}
+use Rattle.std.specs.Prelude.{Some, None, Option, is_some}
 use Rattle.model.specs.Words.{Class, class_of, parameter, is_parameter, when_parameter}
 use Rattle.model.specs.Trees.{same, those, parameters, parameters_from}
 use Rattle.laws.proofs.Words.Classes.{parameter_word_lem}
 use Rattle.laws.proofs.Trees.Fills.{those_in, those_out}
 
+some_same : {m n : ℕ} → ◌≡◌ {A = Option ℕ} (Some m) (Some n) → m ≡ n
+some_same e = cc
+
+no_some : {n : ℕ} → ◌≡◌ {A = Option ℕ} (Some n) None → ⊥
+no_some e = absurd (let z : ◌≡◌ {A = ℕ} 0 1 = cc in omega arith)
+
 -- the parameters of ws are y_next to y_k
 abbrev pub order_ok : ℕ → ℕ → List ℕ → Bool
 order_ok k next ws = same (those is_parameter ws) (parameters_from next (suc k - next))
 
-pub number_class : (w n : ℕ) → when_parameter 0 (λ i. i) w ≡ n → (n ≡ 0 → ⊥) → class_of w ≡ parameter n
-number_class w n e h = go (class_of w) refl
+pub number_class : (w n : ℕ) → when_parameter {A = Option ℕ} None (λ i. Some i) w ≡ Some n → class_of w ≡ parameter n
+number_class w n e = go (class_of w) refl
   where
     go : (c : Class) → class_of w ≡ c → class_of w ≡ parameter n
-    go Class.empty f = absurd (h (sym (rw f at e)))
-    go Class.label f = absurd (h (sym (rw f at e)))
-    go (Class.parameter i) f = f ∙ ap parameter (rw f at e)
-    go (Class.call j) f = absurd (h (sym (rw f at e)))
-    go Class.illegal f = absurd (h (sym (rw f at e)))
+    go Class.empty f = absurd (no_some (sym (rw f at e)))
+    go Class.label f = absurd (no_some (sym (rw f at e)))
+    go (Class.parameter i) f = f ∙ ap parameter (some_same (rw f at e))
+    go (Class.call j) f = absurd (no_some (sym (rw f at e)))
+    go Class.illegal f = absurd (no_some (sym (rw f at e)))
 
-pub no_number : (w : ℕ) → when_parameter 0 (λ i. i) w ≡ 0 → is_parameter w ≡ false
+pub no_number : (w : ℕ) → when_parameter {A = Option ℕ} None (λ i. Some i) w ≡ None → is_parameter w ≡ false
 no_number w e = go (class_of w) refl
   where
-    bad : (i : ℕ) → class_of w ≡ parameter i → i ≡ 0 → ⊥
-    bad i f z = omega (arith, parameter_word_lem w i f)
-
     go : (c : Class) → class_of w ≡ c → is_parameter w ≡ false
     go Class.empty f = rw f
     go Class.label f = rw f
-    go (Class.parameter i) f = absurd (bad i f (rw f at e))
+    go (Class.parameter i) f = absurd (no_some (rw f at e))
+    go (Class.call j) f = rw f
+    go Class.illegal f = rw f
+
+-- a word has a number exactly where it is a parameter
+pub is_some_parameter : (w : ℕ) → is_parameter w ≡ is_some (when_parameter {A = Option ℕ} None (λ i. Some i) w)
+is_some_parameter w = go (class_of w) refl
+  where
+    go : (c : Class) → class_of w ≡ c → is_parameter w ≡ is_some (when_parameter {A = Option ℕ} None (λ i. Some i) w)
+    go Class.empty f = rw f
+    go Class.label f = rw f
+    go (Class.parameter i) f = rw f
     go (Class.call j) f = rw f
     go Class.illegal f = rw f
 
@@ -45,20 +60,20 @@ class_is_parameter w n e = rw e
 
 module _ (k : ℕ) {l rest : List ℕ} {w : ℕ} (e : l ≡ w ∷ rest) (next : ℕ) where
   -- a word that is no parameter is passed over
-  pub order_over : when_parameter 0 (λ i. i) w ≡ 0 → order_ok k next l ≡ order_ok k next rest
+  pub order_over : when_parameter {A = Option ℕ} None (λ i. Some i) w ≡ None → order_ok k next l ≡ order_ok k next rest
   order_over h =
       ap (order_ok k next) e
       ∙ ap (λ (ps : List ℕ). same ps (parameters_from next (suc k - next))) (those_out is_parameter w rest (no_number w h))
 
-  module _ (n : ℕ) (h : when_parameter 0 (λ i. i) w ≡ n) (some : n ≡ 0 → ⊥) where
+  module _ (n : ℕ) (h : when_parameter {A = Option ℕ} None (λ i. Some i) w ≡ Some n) where
     here : order_ok k next l ≡ same (w ∷ those is_parameter rest) (parameters_from next (suc k - next))
     here =
         ap (order_ok k next) e
         ∙ ap (λ (ps : List ℕ). same ps (parameters_from next (suc k - next)))
-        (those_in is_parameter w rest (class_is_parameter w n (number_class w n h some)))
+        (those_in is_parameter w rest (class_is_parameter w n (number_class w n h)))
 
     word : w ≡ 32768 + n
-    word = (parameter_word_lem w n (number_class w n h some)).0
+    word = (parameter_word_lem w n (number_class w n h)).0
 
     -- the parameter that is due
     pub order_next : n ≡ next → n ≤ k → order_ok k next l ≡ order_ok k (next + 1) rest

@@ -9,17 +9,17 @@ use borrow.Author.Tests.{eq-eqb, ne_eqb}
 use Rattle.model.specs.Trees.{Rule, expansions, nodes, lowest_huge}
 use Rattle.model.specs.Refusals.{Result, taken, refused, TRAIL, HUGE, EMPTY}
 use Rattle.model.specs.File.{read_whole}
-use Rattle.grammar.specs.declared.refusals.Refusal.{Refusal}
-use Rattle.grammar.specs.declared.rules.Reading.{Reading}
-use Rattle.grammar.specs.declared.rules.Reading.TheVariants.{Taken, Refused}
-use Rattle.grammar.specs.Meaning.{refusal_is, reading_of, rule_table, padded, entries}
+use Rattle.std.specs.Prelude.{Ok, Err}
+use Rattle.grammar.specs.declared.refusals.Refused.{Refused}
+use Rattle.grammar.specs.declared.rules.Entry.{Entry}
+use Rattle.grammar.specs.Meaning.{refusal_is, reading_of, rule_table, padded, entries, no_rule}
 use Rattle.grammar.specs.Measures.{size_table, gap_rows, Stand, ReadIs}
 
-module _ (file : List ℕ) (m : Result (List Rule)) (table table' sizes sizes' : List ℕ) where
+module _ (file : List ℕ) (m : Result (List Rule)) (table table' : List Entry) (sizes sizes' : List ℕ) where
   -- a refusal, with both tables cleared
-  pub refused_is : (x : Refusal) (k : ℕ) → m ≡ refused (refusal_is x) k → table' ≡ replicate (length table) 0 → sizes' ≡ replicate (length sizes) 0
-      → ReadIs file (Refused x k) m table table' sizes sizes'
-  refused_is x k e t s =
+  pub refused_is : (x : Refused) → m ≡ refused (refusal_is x.refusal) x.place → table' ≡ replicate (length table) no_rule → sizes' ≡ replicate (length sizes) 0
+      → ReadIs file (Err x) m table table' sizes sizes'
+  refused_is x e t s =
       record {
         reading = sym (ap reading_of e);
         rules = t ∙ sym (ap (rule_table (length table)) e);
@@ -28,8 +28,8 @@ module _ (file : List ℕ) (m : Result (List Rule)) (table table' sizes sizes' :
       }
 
   -- a grammar, with both tables filled
-  pub taken_is : (n : ℕ) (rules : List Rule) → m ≡ taken rules → length rules ≡ n → table' ≡ padded (length table) (entries 18 rules)
-      → sizes' ≡ padded (length sizes) (gap_rows (expansions rules)) → Stand file (taken rules) → ReadIs file (Taken n) m table table' sizes sizes'
+  pub taken_is : (n : ℕ) (rules : List Rule) → m ≡ taken rules → length rules ≡ n → table' ≡ padded no_rule (length table) (entries 18 rules)
+      → sizes' ≡ padded 0 (length sizes) (gap_rows (expansions rules)) → Stand file (taken rules) → ReadIs file (Ok n) m table table' sizes sizes'
   taken_is n rules e c t s b =
       record {
         reading = ap taken (sym c) ∙ sym (ap reading_of e);
@@ -52,14 +52,3 @@ module _ (rules : List Rule) (e : lowest_huge 0 (expansions rules) ≡ none) whe
 pub whole_trail : (rules : List Rule) (rest : List ℕ) (n : ℕ) → length rules ≡ n → (rest ≡ [] → ⊥) → read_whole rules rest ≡ refused TRAIL (n + 1)
 whole_trail rules [] n e h = absurd (h refl)
 whole_trail rules (b ∷ bs) n e h = ap (refused TRAIL) (ap suc e ∙ sym (add-one n))
-
--- the same promise, of tables as long
-pub read_as : (file : List ℕ) (r : Reading) (m m' : Result (List Rule)) (table t table' sizes s sizes' : List ℕ) → m ≡ m' → length t ≡ length table → length s ≡ length sizes
-    → ReadIs file r m' t table' s sizes' → ReadIs file r m table table' sizes sizes'
-read_as file r m m' table t table' sizes s sizes' e l k p =
-    record {
-      reading = p.reading ∙ sym (ap reading_of e);
-      rules = p.rules ∙ ap (λ (n : ℕ). rule_table n m') l ∙ sym (ap (rule_table (length table)) e);
-      gaps = p.gaps ∙ ap (λ (n : ℕ). size_table n m') k ∙ sym (ap (size_table (length sizes)) e);
-      stands = subst (Stand file) (sym e) p.stands;
-    }

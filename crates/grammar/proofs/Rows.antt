@@ -95,10 +95,10 @@ row_is e h =
     zeros (suc k) (suc m) h = ap {B = List ℕ} (λ l. 0 ∷ l) (zeros k m (omega arith))
 
 pub rows_more : (len : ℕ) (es : List (List ℕ)) (r : ℕ) → r < length es → length (gap_sizes (get_or es r [])) ≤ 5 → 5 * r + 5 ≤ len
-    → padded len (gap_rows (take r es) ++ gap_sizes (get_or es r [])) ≡ padded len (gap_rows (take (suc r) es))
+    → padded 0 len (gap_rows (take r es) ++ gap_sizes (get_or es r [])) ≡ padded 0 len (gap_rows (take (suc r) es))
 rows_more len es r h l room = sym
-    (ap (λ (x : List (List ℕ)). padded len (gap_rows x)) (take-suc es r [] h)
-    ∙ ap (padded len) (rows_append (take r es) (e ∷ []) ∙ ap (λ (x : List ℕ). gap_rows (take r es) ++ x) (append-nil (gap_row e) ∙ row_is e l))
+    (ap (λ (x : List (List ℕ)). padded 0 len (gap_rows x)) (take-suc es r [] h)
+    ∙ ap (padded 0 len) (rows_append (take r es) (e ∷ []) ∙ ap (λ (x : List ℕ). gap_rows (take r es) ++ x) (append-nil (gap_row e) ∙ row_is e l))
     ∙ more)
   where
     e : List ℕ
@@ -119,7 +119,7 @@ rows_more len es r h l room = sym
     regroup : (a b c d : List ℕ) → (a ++ (b ++ c)) ++ d ≡ (a ++ b) ++ (c ++ d)
     regroup a b c d = simp append_assoc
 
-    more : padded len (rows ++ (gs ++ replicate k 0)) ≡ padded len (rows ++ gs)
+    more : padded 0 len (rows ++ (gs ++ replicate k 0)) ≡ padded 0 len (rows ++ gs)
     more =
         let a : length (rows ++ (gs ++ replicate k 0)) ≡ 5 * r + 5
         = omega (arith, length-append rows (gs ++ replicate k 0), length-append gs (replicate k 0), length-replicate {A = ℕ} k 0, count) in
@@ -130,7 +130,7 @@ rows_more len es r h l room = sym
         ∙ ap (λ (x : List ℕ). (rows ++ gs) ++ x) (replicate-append-replicate k (len - (5 * r + 5)) 0 ∙ ap (λ (n : ℕ). replicate n 0) (sym left))
 
 -- a store at the first 0 behind the entries
-pub store_next : (len : ℕ) (xs : List ℕ) (m v : ℕ) → m ≡ length xs → m < len → set (padded len xs) m v ≡ padded len (xs ++ v ∷ [])
+pub store_next : (len : ℕ) (xs : List ℕ) (m v : ℕ) → m ≡ length xs → m < len → set (padded 0 len xs) m v ≡ padded 0 len (xs ++ v ∷ [])
 store_next len xs m v e h =
     let k = len - suc m in
     let a : len - length xs ≡ suc k = omega arith in

@@ -6,12 +6,13 @@ use mathlib.Core.List.{List, [], ◌∷◌, ◌++◌}
 use mathlib.Core.Option.{Option, none, some}
 use lib.Dec.{eqb}
 use native.Mathlib.Omega.{arith}
-use lib.ListN.{length, drop, set}
-use lib.Seq.{sets, sets-eq}
+use lib.ListN.{length, take, drop, set}
+use lib.Seq.{sets, sets-eq, take-append-le, take_all}
 use borrow.Author.Tests.{eq-eqb, ne_eqb, eqb-true, eqb-false}
 use Rattle.model.specs.Refusals.{Refusal, Result, refused, first_of}
 use Rattle.model.specs.File.{rule_refusals, rule_in, after_record}
 use Rattle.model.specs.Trees.{Rule, ranks_of}
+use Rattle.grammar.specs.declared.rules.Entry.{Entry}
 use Rattle.grammar.specs.Meaning.{body_in, ranks_in, rules_in, after_rules, read_records, entries, Bodies, place_after}
 
 pub rules_snoc : (r : ℕ) (bytes : List ℕ) → rules_in (suc r) bytes ≡ rules_in r bytes ++ rule_in (after_rules r bytes) ∷ []
@@ -27,13 +28,13 @@ length_rules zero bytes = refl
 length_rules (suc r) bytes = ap suc (length_rules r (after_record bytes))
 
 pub entries_snoc : (place : ℕ) (rs : List Rule) (x : Rule)
-    → entries place (rs ++ x ∷ []) ≡ entries place rs ++ x.rank ∷ place_after place rs ∷ length x.body ∷ []
+    → entries place (rs ++ x ∷ []) ≡ entries place rs ++ record { rank = x.rank; place = place_after place rs; words = length x.body } ∷ []
 entries_snoc place [] x = refl
-entries_snoc place (r ∷ rs) x = ap (λ (l : List ℕ). r.rank ∷ place ∷ length r.body ∷ l) (entries_snoc (place + 2 * length r.body + 8) rs x)
+entries_snoc place (r ∷ rs) x = ap (λ (l : List Entry). record { rank = r.rank; place = place; words = length r.body } ∷ l) (entries_snoc (place + 2 * length r.body + 8) rs x)
 
-pub length_entries : (place : ℕ) (rs : List Rule) → length (entries place rs) ≡ 3 * length rs
+pub length_entries : (place : ℕ) (rs : List Rule) → length (entries place rs) ≡ length rs
 length_entries place [] = refl
-length_entries place (r ∷ rs) = omega (arith, length_entries (place + 2 * length r.body + 8) rs)
+length_entries place (r ∷ rs) = ap suc (length_entries (place + 2 * length r.body + 8) rs)
 
 pub place_snoc : (place : ℕ) (rs : List Rule) (x : Rule) → place_after place (rs ++ x ∷ []) ≡ place_after place rs + 2 * length x.body + 8
 place_snoc place [] x = refl
@@ -44,19 +45,21 @@ pub bodies_snoc : (file : List ℕ) (place : ℕ) (rs : List Rule) (x : Rule) �
 bodies_snoc file place [] x b e = (e, tt)
 bodies_snoc file place (r ∷ rs) x b e = (b.0, bodies_snoc file (place + 2 * length r.body + 8) rs x b.1 e)
 
-pub sets_append : (l : List ℕ) (i : ℕ) (vs ws : List ℕ) → sets l i (vs ++ ws) ≡ sets (sets l i vs) (i + length vs) ws
+pub sets_append : {A : Type 0} (l : List A) (i : ℕ) (vs ws : List A) → sets l i (vs ++ ws) ≡ sets (sets l i vs) (i + length vs) ws
 sets_append l i [] ws = ap (λ (k : ℕ). sets l k ws) (omega arith)
 sets_append l i (v ∷ vs) ws = sets_append (set l i v) (suc i) vs ws ∙ ap (λ (k : ℕ). sets (sets (set l i v) (suc i) vs) k ws) (omega arith)
 
--- the ranks in a table that begins with the entries
-pub ranks_of_entries : (place : ℕ) (rs : List Rule) (rest : List ℕ) → ranks_in (length rs) (entries place rs ++ rest) ≡ ranks_of rs
-ranks_of_entries place [] rest = refl
-ranks_of_entries place (r ∷ rs) rest = ap (λ (l : List ℕ). r.rank ∷ l) (ranks_of_entries (place + 2 * length r.body + 8) rs rest)
+-- the ranks of the entries
+pub ranks_of_entries : (place : ℕ) (rs : List Rule) → ranks_in (entries place rs) ≡ ranks_of rs
+ranks_of_entries place [] = refl
+ranks_of_entries place (r ∷ rs) = ap (λ (l : List ℕ). r.rank ∷ l) (ranks_of_entries (place + 2 * length r.body + 8) rs)
 
-pub ranks_entered : (place : ℕ) (rs : List Rule) (table : List ℕ) → 3 * length rs ≤ length table → ranks_in (length rs) (sets table 0 (entries place rs)) ≡ ranks_of rs
-ranks_entered place rs table h =
-    ap (ranks_in (length rs)) (sets-eq (entries place rs) table 0 (omega (arith, length_entries place rs)))
-    ∙ ranks_of_entries place rs (drop (0 + length (entries place rs)) table)
+-- entries over the front of a table
+pub front_entered : (es table : List Entry) → length es ≤ length table → take (length es) (sets table 0 es) ≡ es
+front_entered es table h =
+    ap (take (length es)) (sets-eq es table 0 (omega arith))
+    ∙ take-append-le (length es) es (drop (0 + length es) table) (omega arith)
+    ∙ take_all (length es) es (omega arith)
 
 -- the start rule is the one with none due after it
 pub last_due : (n r : ℕ) → r < n → eqb (n - suc r) 0 ≡ eqb (r + 1) n

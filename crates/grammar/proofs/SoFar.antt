@@ -8,19 +8,19 @@ use native.Mathlib.Nat.{sub-zero}
 use native.Mathlib.Numerals.{add-one}
 use native.Mathlib.Decide.{dec_lt}
 use native.Mathlib.Omega.{arith}
-use lib.ListN.{length, drop, get_or, length-append, get_or-append}
+use lib.ListN.{length, take, drop, get_or, set, length-append, get_or-append, get_or-eq_default}
 use lib.Seq.{sets, length-sets, get_or_at}
 use Rattle.model.specs.Refusals.{Refusal, taken, refused}
 use Rattle.model.specs.File.{rule_in, after_record}
 use Rattle.model.specs.Trees.{Rule, ranks_of}
 use Rattle.laws.proofs.Trees.Grammar.{length_ranks, ranks_append}
+use Rattle.grammar.specs.declared.rules.Entry.{Entry}
 use Rattle.grammar.specs.Meaning.{body_in, ranks_in, RanksSmall, rule_result, rules_in, after_rules, read_records, entries, Bodies, place_after, RulesTaken}
-use Rattle.grammar.proofs.Tables.{rank_in}
 use Rattle.grammar.proofs.RuleRecords.{RuleThere, rule_there, rule_not_there}
-use Rattle.grammar.proofs.RuleLists.{rules_snoc, after_snoc, entries_snoc, length_entries, place_snoc, bodies_snoc, sets_append, ranks_entered, last_due, read_on, read_refused}
+use Rattle.grammar.proofs.RuleLists.{rules_snoc, after_snoc, entries_snoc, length_entries, place_snoc, bodies_snoc, sets_append, ranks_of_entries, front_entered, last_due, read_on, read_refused}
 
 -- n rules are due in all, the first r are rs; the next record is at `at`
-pub record SoFar (file : List ℕ) (n : ℕ) (table₀ table : List ℕ) (at r : ℕ) (rs : List Rule) : Type 0 where
+pub record SoFar (file : List ℕ) (n : ℕ) (table₀ table : List Entry) (at r : ℕ) (rs : List Rule) : Type 0 where
   pub not_past : r ≤ n
   pub within : at ≤ length file
   pub many : length rs ≡ r
@@ -32,10 +32,10 @@ pub record SoFar (file : List ℕ) (n : ℕ) (table₀ table : List ℕ) (at r :
   pub bodies : Bodies file 18 rs
 
 -- the same, of the rules that stand there
-abbrev pub Here : List ℕ → ℕ → List ℕ → List ℕ → ℕ → ℕ → Type 0
+abbrev pub Here : List ℕ → ℕ → List Entry → List Entry → ℕ → ℕ → Type 0
 Here file n table₀ table at r = SoFar file n table₀ table at r (rules_in r (drop 10 file))
 
-pub at_first : (file : List ℕ) (n : ℕ) (table : List ℕ) → 10 ≤ length file → Here file n table table 10 0
+pub at_first : (file : List ℕ) (n : ℕ) (table : List Entry) → 10 ≤ length file → Here file n table table 10 0
 at_first file n table h =
     record {
       not_past = omega arith;
@@ -49,56 +49,62 @@ at_first file n table h =
       bodies = tt;
     }
 
-module _ (file : List ℕ) (n : ℕ) (table₀ table : List ℕ) (at r : ℕ) (rs : List Rule) (s : SoFar file n table₀ table at r rs) (room : 3 * r ≤ length table₀) where
+module _ (file : List ℕ) (n : ℕ) (table₀ table : List Entry) (at r : ℕ) (rs : List Rule) (s : SoFar file n table₀ table at r rs) (room : r ≤ length table₀) where
   pub same_size : length table ≡ length table₀
   same_size = ap length s.entered ∙ length-sets table₀ 0 (entries 18 rs)
 
-  pub ranks_are : ranks_in r table ≡ ranks_of rs
+  pub ranks_are : ranks_in (take r table) ≡ ranks_of rs
   ranks_are =
-      ap (λ (k : ℕ). ranks_in k table) (sym s.many)
-      ∙ ap (ranks_in (length rs)) s.entered
-      ∙ ranks_entered 18 rs table₀ (omega (arith, s.many))
+      let k : r ≡ length (entries 18 rs) = omega (arith, length_entries 18 rs, s.many) in
+      ap ranks_in
+      (ap (λ (n : ℕ). take n table) k
+      ∙ ap (take (length (entries 18 rs))) s.entered
+      ∙ front_entered (entries 18 rs) table₀ (omega arith))
+      ∙ ranks_of_entries 18 rs
 
-  pub ranks_small : RanksSmall r table
-  ranks_small j h = subst (λ (k : ℕ). k ≤ 4) (ap (λ (l : List ℕ). get_or l j 0) (sym ranks_are) ∙ rank_in r table j h) (s.small j h)
+  pub ranks_small : RanksSmall (take r table)
+  ranks_small j = subst (λ (k : ℕ). k ≤ 4) (ap (λ (l : List ℕ). get_or l j 0) (sym ranks_are)) (go (dec_lt j r))
+    where
+      go : Dec (j < r) → get_or (ranks_of rs) j 0 ≤ 4
+      go (yes h) = s.small j h
+      go (no h) = let z : get_or (ranks_of rs) j 0 ≡ 0 = get_or-eq_default (ranks_of rs) 0 (omega (arith, length_ranks rs, s.many)) in omega arith
 
-  pub found_here : (last : Bool) (rank words : ℕ) → rule_result (ranks_in r table) last (drop at file) ≡ taken (rank, words) → RuleThere file at (ranks_of rs) last rank words
-  found_here last rank words e =
-      rule_there file at s.within (ranks_of rs) last rank words (ap (λ (l : List ℕ). rule_result l last (drop at file)) (sym ranks_are) ∙ e)
+  pub found_here : (last : Bool) (rule : Entry) → rule_result (ranks_in (take r table)) last at (drop at file) ≡ taken rule → RuleThere file at (ranks_of rs) last rule
+  found_here last rule e =
+      rule_there file at s.within (ranks_of rs) last rule (ap (λ (l : List ℕ). rule_result l last at (drop at file)) (sym ranks_are) ∙ e)
 
   module _ (more : r < n) where
     due : n - r ≡ suc (n - suc r)
     due = omega arith
 
-    pub refused_here : (x : Refusal) → rule_result (ranks_in r table) (eqb (r + 1) n) (drop at file) ≡ refused x 0
+    pub refused_here : (x : Refusal) → rule_result (ranks_in (take r table)) (eqb (r + 1) n) at (drop at file) ≡ refused x 0
         → read_records n [] (drop 10 file) ≡ refused x (r + 1)
     refused_here x e =
         s.reading
         ∙ ap (λ (k : ℕ). read_records k rs (drop at file)) due
         ∙ read_refused (n - suc r) rs (drop at file) (eqb (r + 1) n) (last_due n r more) x
-        (rule_not_there (ranks_of rs) (eqb (r + 1) n) (drop at file) x
-        (ap (λ (l : List ℕ). rule_result l (eqb (r + 1) n) (drop at file)) (sym ranks_are) ∙ e))
+        (rule_not_there (ranks_of rs) (eqb (r + 1) n) at (drop at file) x
+        (ap (λ (l : List ℕ). rule_result l (eqb (r + 1) n) at (drop at file)) (sym ranks_are) ∙ e))
         ∙ ap (refused x) (ap suc s.many ∙ sym (add-one r))
 
-    module _ (rank words : ℕ) (t : RuleThere file at (ranks_of rs) (eqb (r + 1) n) rank words) (after : List ℕ)
-        (stored : after ≡ sets table (3 * r) (rank ∷ (at + 8) ∷ words ∷ [])) where
+    module _ (rule : Entry) (t : RuleThere file at (ranks_of rs) (eqb (r + 1) n) rule) (after : List Entry) (stored : after ≡ set table r rule) where
       abbrev new : Rule
       new = rule_in (drop at file)
 
       entered_next : after ≡ sets table₀ 0 (entries 18 (rs ++ new ∷ []))
       entered_next =
           stored
-          ∙ ap (λ (l : List ℕ). sets l (3 * r) (rank ∷ (at + 8) ∷ words ∷ [])) s.entered
-          ∙ ap (λ (k : ℕ). sets (sets table₀ 0 (entries 18 rs)) k (rank ∷ (at + 8) ∷ words ∷ [])) end
-          ∙ sym (sets_append table₀ 0 (entries 18 rs) (rank ∷ (at + 8) ∷ words ∷ []))
-          ∙ ap (λ (l : List ℕ). sets table₀ 0 (entries 18 rs ++ l)) values
+          ∙ ap (λ (l : List Entry). set l r rule) s.entered
+          ∙ ap (λ (k : ℕ). set (sets table₀ 0 (entries 18 rs)) k rule) end
+          ∙ sym (sets_append table₀ 0 (entries 18 rs) (rule ∷ []))
+          ∙ ap (λ (e : Entry). sets table₀ 0 (entries 18 rs ++ e ∷ [])) values
           ∙ ap (sets table₀ 0) (sym (entries_snoc 18 rs new))
         where
-          end : 3 * r ≡ 0 + length (entries 18 rs)
+          end : r ≡ 0 + length (entries 18 rs)
           end = omega (arith, length_entries 18 rs, s.many)
 
-          values : rank ∷ (at + 8) ∷ words ∷ [] ≡ new.rank ∷ place_after 18 rs ∷ length new.body ∷ []
-          values = ap (λ (k : ℕ). k ∷ (at + 8) ∷ words ∷ []) (sym t.rank_is) ∙ ap (λ (k : ℕ). new.rank ∷ k ∷ words ∷ []) s.place ∙ ap (λ (k : ℕ). new.rank ∷ place_after 18 rs ∷ k ∷ []) (sym t.words_are)
+          values : rule ≡ record { rank = new.rank; place = place_after 18 rs; words = length new.body }
+          values = λ i. record { rank = sym t.rank_is i; place = (t.place_is ∙ s.place) i; words = sym t.words_are i }
 
       small_next : (j : ℕ) → j < suc r → get_or (ranks_of (rs ++ new ∷ [])) j 0 ≤ 4
       small_next j h = subst (λ (l : List ℕ). get_or l j 0 ≤ 4) (sym (ranks_append rs (new ∷ []))) (go (dec_lt j r))
@@ -110,7 +116,7 @@ module _ (file : List ℕ) (n : ℕ) (table₀ table : List ℕ) (at r : ℕ) (r
           go (yes l) = subst (λ (k : ℕ). k ≤ 4) (sym (get_or-append (ranks_of rs) (new.rank ∷ []) 0 j (omega (arith, size)))) (s.small j l)
           go (no l) = subst (λ (k : ℕ). k ≤ 4) (sym t.rank_is ∙ sym (get_or_at (ranks_of rs) new.rank [] 0 j (omega (arith, size)))) t.rank_small
 
-      next : SoFar file n table₀ after (at + 8 + 2 * words) (suc r) (rs ++ new ∷ [])
+      next : SoFar file n table₀ after (at + 8 + 2 * rule.words) (suc r) (rs ++ new ∷ [])
       next =
           record {
             not_past = more;
@@ -128,17 +134,17 @@ module _ (file : List ℕ) (n : ℕ) (table₀ table : List ℕ) (at r : ℕ) (r
           }
 
 -- over a rule that is there
-pub at_next : (file : List ℕ) (n : ℕ) (table₀ table : List ℕ) (at r : ℕ) → Here file n table₀ table at r → 3 * r ≤ length table₀ → r < n
-    → (rank words : ℕ) → RuleThere file at (ranks_of (rules_in r (drop 10 file))) (eqb (r + 1) n) rank words
-    → (after : List ℕ) → after ≡ sets table (3 * r) (rank ∷ (at + 8) ∷ words ∷ []) → Here file n table₀ after (at + 8 + 2 * words) (r + 1)
-at_next file n table₀ table at r s room more rank words t after stored =
-    subst (λ (k : ℕ). Here file n table₀ after (at + 8 + 2 * words) k) (sym (add-one r))
-    (subst (SoFar file n table₀ after (at + 8 + 2 * words) (suc r))
+pub at_next : (file : List ℕ) (n : ℕ) (table₀ table : List Entry) (at r : ℕ) → Here file n table₀ table at r → r ≤ length table₀ → r < n
+    → (rule : Entry) → RuleThere file at (ranks_of (rules_in r (drop 10 file))) (eqb (r + 1) n) rule
+    → (after : List Entry) → after ≡ set table r rule → Here file n table₀ after (at + 8 + 2 * rule.words) (r + 1)
+at_next file n table₀ table at r s room more rule t after stored =
+    subst (λ (k : ℕ). Here file n table₀ after (at + 8 + 2 * rule.words) k) (sym (add-one r))
+    (subst (SoFar file n table₀ after (at + 8 + 2 * rule.words) (suc r))
     (ap (λ (l : List ℕ). rules_in r (drop 10 file) ++ rule_in l ∷ []) s.rest ∙ sym (rules_snoc r (drop 10 file)))
-    (next file n table₀ table at r (rules_in r (drop 10 file)) s room more rank words t after stored))
+    (next file n table₀ table at r (rules_in r (drop 10 file)) s room more rule t after stored))
 
 -- all are read
-pub at_end : (file : List ℕ) (n : ℕ) (table₀ table : List ℕ) (at r : ℕ) → Here file n table₀ table at r → 3 * n ≤ length table₀ → n ≤ r → RulesTaken at n file table₀ table
+pub at_end : (file : List ℕ) (n : ℕ) (table₀ table : List Entry) (at r : ℕ) → Here file n table₀ table at r → n ≤ length table₀ → n ≤ r → RulesTaken at n file table₀ table
 at_end file n table₀ table at r s room h =
     let all_read : Here file n table₀ table at n = subst (Here file n table₀ table at) same s in
     record {
@@ -148,8 +154,6 @@ at_end file n table₀ table at r s room h =
       end_within = all_read.within;
       entered = all_read.entered;
       bodies = all_read.bodies;
-      ranks = ranks_are file n table₀ table at n (rules_in n (drop 10 file)) all_read room;
-      small = ranks_small file n table₀ table at n (rules_in n (drop 10 file)) all_read room;
     }
   where
     same : r ≡ n

@@ -1,7 +1,7 @@
 -- Document 01: "equality of any two conforming answers is proved". Answers that mean the same are the same, so a contract that is an equation with the model leaves no
 -- part of the code's answer open.
 use Prim.Native.Nat.{ℕ, ◌-◌}
-use mathlib.Core.Path.{◌≡◌, refl, sym, ap, ap₂, ◌∙◌}
+use mathlib.Core.Path.{◌≡◌, refl, sym, ap, ◌∙◌}
 use mathlib.Core.List.{List, [], ◌∷◌}
 use native.Mathlib.Omega.{arith}
 use lib.ListN.{get_or}
@@ -10,8 +10,8 @@ use Rattle.model.specs.Answers as answers
 use Rattle.laws.proofs.Answers.Refusals.{number_of_positive}
 use Rattle.grammar.specs.declared.refusals.Refusal.{Refusal}
 use Rattle.grammar.specs.declared.refusals.Refusal.TheVariants.{Short, Kind, Length, Head, Rank, Symbol, Body, Trail, Large, Huge, Empty, Position, Node, Label, Tree, NothingLeft, Outgrown, Full, Room, Work, Request}
-use Rattle.grammar.specs.declared.refusals.Verdict.{Verdict}
-use Rattle.grammar.specs.declared.refusals.Verdict.TheVariants.{Accepted, Refused}
+use Rattle.std.specs.Prelude.{Ok, Err, Result as Outcome, ⊤}
+use Rattle.grammar.specs.declared.refusals.Refused.{Refused}
 use Rattle.grammar.specs.declared.refusals.Answer.{Answer}
 use Rattle.grammar.specs.declared.answers.Counted.{Counted}
 use Rattle.grammar.specs.Meaning.{refusal_is, verdict_is, answer_is, count_is}
@@ -51,17 +51,15 @@ numbered Request = refl
 refusal_unique : (x y : Refusal) → number_of (refusal_is x) ≡ number_of (refusal_is y) → x ≡ y
 refusal_unique x y e = sym (numbered x) ∙ ap by_number e ∙ numbered y
 
-parts_unique : (v w : Verdict) (o r l o' r' l' : ℕ) → verdict_is v o r l ≡ verdict_is w o' r' l' → (v ≡ w) × (o ≡ o') × (r ≡ r') × (l ≡ l')
-parts_unique Accepted Accepted o r l o' r' l' e =
+parts_unique : (v w : Outcome ⊤ Refused) (o r l o' r' l' : ℕ) → verdict_is v o r l ≡ verdict_is w o' r' l' → (v ≡ w) × (o ≡ o') × (r ≡ r') × (l ≡ l')
+parts_unique (Ok u) (Ok v) o r l o' r' l' e =
     (refl, ap (λ (a : answers.Answer). a.opened) e, ap (λ (a : answers.Answer). a.rounds) e, ap (λ (a : answers.Answer). a.length) e)
-parts_unique Accepted (Refused y k) o r l o' r' l' e = absurd (omega (arith, ap (λ (a : answers.Answer). a.number) e, number_of_positive (refusal_is y)))
-parts_unique (Refused x j) Accepted o r l o' r' l' e = absurd (omega (arith, ap (λ (a : answers.Answer). a.number) e, number_of_positive (refusal_is x)))
-parts_unique (Refused x j) (Refused y k) o r l o' r' l' e = (
-  ap₂ Refused (refusal_unique x y (ap (λ (a : answers.Answer). a.number) e)) (ap (λ (a : answers.Answer). a.place) e),
-  ap (λ (a : answers.Answer). a.opened) e,
-  ap (λ (a : answers.Answer). a.rounds) e,
-  ap (λ (a : answers.Answer). a.length) e,
-)
+parts_unique (Ok u) (Err y) o r l o' r' l' e = absurd (omega (arith, ap (λ (a : answers.Answer). a.number) e, number_of_positive (refusal_is y.refusal)))
+parts_unique (Err x) (Ok v) o r l o' r' l' e = absurd (omega (arith, ap (λ (a : answers.Answer). a.number) e, number_of_positive (refusal_is x.refusal)))
+parts_unique (Err x) (Err y) o r l o' r' l' e =
+    let same : x ≡ y =
+    λ i. record { refusal = refusal_unique x.refusal y.refusal (ap (λ (a : answers.Answer). a.number) e) i; place = ap (λ (a : answers.Answer). a.place) e i } in
+    (ap Err same, ap (λ (a : answers.Answer). a.opened) e, ap (λ (a : answers.Answer). a.rounds) e, ap (λ (a : answers.Answer). a.length) e)
 
 pub answer_unique : (a b : Answer) → answer_is a ≡ answer_is b → a ≡ b
 answer_unique a b e =

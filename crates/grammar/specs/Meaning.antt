@@ -1,5 +1,5 @@
 -- What the code's values mean in the model: each enum's cases, and the results of reading a part of a file.
-use Rattle.std.specs.Prelude.{ℕ, zero, suc, ◌+◌, ◌*◌, ◌-◌, ◌≤◌, ◌<◌, Bool, cond, ◌&&◌, List, [], ◌∷◌, ◌++◌, leb, eqb, ◌≡◌, length, take, drop, get_or, replicate}
+use Rattle.std.specs.Prelude.{ℕ, zero, suc, ◌+◌, ◌*◌, ◌-◌, ◌≤◌, Bool, cond, ◌&&◌, List, [], ◌∷◌, ◌++◌, map, leb, eqb, ◌≡◌, length, take, drop, get_or, replicate, Ok, Err, Result as Outcome}
 use Rattle.std.proofs.Math.Option.{Option, none, some}
 use Rattle.std.proofs.lemmas.List.Edits.{sets}
 use Rattle.model.specs.Words.{Class, empty, label, parameter, call, illegal}
@@ -11,17 +11,13 @@ use Rattle.grammar.specs.declared.words.Word.{Word}
 use Rattle.grammar.specs.declared.words.Word.TheVariants.{Empty, Label, Parameter, Call, Illegal}
 use Rattle.grammar.specs.declared.refusals.Refusal.{Refusal}
 use Rattle.grammar.specs.declared.refusals.Refusal.TheVariants as refusals
-use Rattle.grammar.specs.declared.file.Record.{Record}
-use Rattle.grammar.specs.declared.file.Record.TheVariants.{Payload, Refused}
+use Rattle.grammar.specs.declared.refusals.Refused.{Refused}
+use Rattle.grammar.specs.declared.file.Kind.{Kind}
+use Rattle.grammar.specs.declared.file.Kind.TheVariants as kinds
 use Rattle.model.specs.Answers as answers
-use Rattle.grammar.specs.declared.refusals.Verdict.{Verdict}
-use Rattle.grammar.specs.declared.refusals.Verdict.TheVariants as verdicts
 use Rattle.grammar.specs.declared.refusals.Answer.{Answer}
 use Rattle.grammar.specs.declared.answers.Counted.{Counted}
-use Rattle.grammar.specs.declared.rules.Found.{Found}
-use Rattle.grammar.specs.declared.rules.Found.TheVariants as founds
-use Rattle.grammar.specs.declared.rules.Reading.{Reading}
-use Rattle.grammar.specs.declared.rules.Reading.TheVariants as readings
+use Rattle.grammar.specs.declared.rules.Entry.{Entry}
 
 -- the row of document 01's table of words
 abbrev pub class_is : Word → Class
@@ -62,9 +58,15 @@ word_in file at = get_or file at 0 + 256 * get_or file (at + 1) 0
 abbrev pub length_in : List ℕ → ℕ → ℕ
 length_in file at = word_in file at + 65536 * word_in file (at + 2)
 
-abbrev pub record_is : Record → Result ℕ
-record_is (Payload n) = taken n
-record_is (Refused x) = refused (refusal_is x) 0
+-- a kind's number
+abbrev pub kind_is : Kind → ℕ
+kind_is kinds.Head = 1
+kind_is kinds.Rule = 2
+
+-- a value, or a refusal whose place the caller has
+abbrev pub result_is : {A : Type 0} → Outcome A Refusal → Result A
+result_is (Ok a) = taken a
+result_is (Err x) = refused (refusal_is x) 0
 
 -- the first of the conditions that holds, or the value
 abbrev pub unless_refused : {A : Type 0} → A → Option model.Refusal → Result A
@@ -85,22 +87,18 @@ head_result bytes = unless_refused (rule_count bytes) (first_of (head_refusals b
 abbrev pub body_in : List ℕ → ℕ → ℕ → List ℕ
 body_in file at words = words_in (take (2 * words) (drop at file))
 
--- the ranks of the first r rules in a rule table
-abbrev pub ranks_in : ℕ → List ℕ → List ℕ
-ranks_in zero table = []
-ranks_in (suc r) table = get_or table 0 0 ∷ ranks_in r (drop 3 table)
+-- the ranks of rules
+abbrev pub ranks_in : List Entry → List ℕ
+ranks_in rules = map (λ (e : Entry). e.rank) rules
 
 -- they are ranks that a rule may have
-abbrev pub RanksSmall : ℕ → List ℕ → Type 0
-RanksSmall r table = (j : ℕ) → j < r → get_or table (3 * j) 0 ≤ 4
+abbrev pub RanksSmall : List Entry → Type 0
+RanksSmall rules = (j : ℕ) → get_or (ranks_in rules) j 0 ≤ 4
 
--- a rule's rank and the number of its body's words, or the first refusal
-abbrev pub found_is : Found → Result (ℕ × ℕ)
-found_is (founds.Rule rank words) = taken (rank, words)
-found_is (founds.Refused x) = refused (refusal_is x) 0
-
-abbrev pub rule_result : List ℕ → Bool → List ℕ → Result (ℕ × ℕ)
-rule_result ranks last bytes = unless_refused ((rule_in bytes).rank, length (rule_in bytes).body) (first_of (rule_refusals ranks last bytes))
+-- a rule's entry, of a record at a place, or the first refusal
+abbrev pub rule_result : List ℕ → Bool → ℕ → List ℕ → Result Entry
+rule_result ranks last at bytes =
+    unless_refused (record { rank = (rule_in bytes).rank; place = at + 8; words = length (rule_in bytes).body }) (first_of (rule_refusals ranks last bytes))
 
 -- the first r rules, read one after the other, and the bytes after them
 abbrev pub rules_in : ℕ → List ℕ → List Rule
@@ -125,9 +123,13 @@ read_records (suc due) rules bytes =
     ]
 
 -- the rule table's entries for rules whose first body stands at a place
-abbrev pub entries : ℕ → List Rule → List ℕ
+abbrev pub entries : ℕ → List Rule → List Entry
 entries place [] = []
-entries place (r ∷ rs) = r.rank ∷ place ∷ length r.body ∷ entries (place + 2 * length r.body + 8) rs
+entries place (r ∷ rs) = record { rank = r.rank; place = place; words = length r.body } ∷ entries (place + 2 * length r.body + 8) rs
+
+-- the entry of a rule that there isn't
+abbrev pub no_rule : Entry
+no_rule = record { rank = 0; place = 0; words = 0 }
 
 -- each rule's body stands in the file at its place
 abbrev pub Bodies : List ℕ → ℕ → List Rule → Type 0
@@ -140,44 +142,43 @@ place_after place [] = place
 place_after place (r ∷ rs) = place_after (place + 2 * length r.body + 8) rs
 
 -- what reading n rules leaves
-pub record RulesTaken (end n : ℕ) (file before after : List ℕ) : Type 0 where
+pub record RulesTaken (end n : ℕ) (file : List ℕ) (before after : List Entry) : Type 0 where
   pub result : read_records n [] (drop 10 file) ≡ taken (rules_in n (drop 10 file))
   pub rest : drop end file ≡ after_rules n (drop 10 file)
   pub end_place : end + 8 ≡ place_after 18 (rules_in n (drop 10 file))
   pub end_within : end ≤ length file
   pub entered : after ≡ sets before 0 (entries 18 (rules_in n (drop 10 file)))
   pub bodies : Bodies file 18 (rules_in n (drop 10 file))
-  pub ranks : ranks_in n after ≡ ranks_of (rules_in n (drop 10 file))
-  pub small : RanksSmall n after
 
-abbrev pub RulesRead : Reading → ℕ → List ℕ → List ℕ → List ℕ → Type 0
-RulesRead (readings.Taken end) n file before after = RulesTaken end n file before after
-RulesRead (readings.Refused x k) n file before after =
-    (read_records n [] (drop 10 file) ≡ refused (refusal_is x) k) × (length after ≡ length before)
+abbrev pub RulesRead : Outcome ℕ Refused → ℕ → List ℕ → List Entry → List Entry → Type 0
+RulesRead (Ok end) n file before after = RulesTaken end n file before after
+RulesRead (Err x) n file before after =
+    (read_records n [] (drop 10 file) ≡ refused (refusal_is x.refusal) x.place) × (length after ≡ length before)
 
--- a table of the given length: the entries, then 0
-abbrev pub padded : ℕ → List ℕ → List ℕ
-padded len entries = entries ++ replicate (len - length entries) 0
+-- a table of the given length: the entries, then the filler
+abbrev pub padded : {A : Type 0} → A → ℕ → List A → List A
+padded filler len entries = entries ++ replicate (len - length entries) filler
+
+-- a value, or a refusal with its place
+abbrev pub reading_is : {A : Type 0} → Outcome A Refused → Result A
+reading_is (Ok a) = taken a
+reading_is (Err x) = refused (refusal_is x.refusal) x.place
 
 -- the number of rules of a file that is taken, or the refusal
-abbrev pub reading_is : Reading → Result ℕ
-reading_is (readings.Taken n) = taken n
-reading_is (readings.Refused x k) = refused (refusal_is x) k
-
 abbrev pub reading_of : Result (List Rule) → Result ℕ
 reading_of (taken rules) = taken (length rules)
 reading_of (refused x k) = refused x k
 
 -- the rule table after a file was read
-abbrev pub rule_table : ℕ → Result (List Rule) → List ℕ
-rule_table len (taken rules) = padded len (entries 18 rules)
-rule_table len (refused x k) = replicate len 0
+abbrev pub rule_table : ℕ → Result (List Rule) → List Entry
+rule_table len (taken rules) = padded no_rule len (entries 18 rules)
+rule_table len (refused x k) = replicate len no_rule
 
 -- document 01's answer: "Where an answer is an enum, a definition gives this paper's number and values for each of its cases."
-abbrev pub verdict_is : Verdict → ℕ → ℕ → ℕ → answers.Answer
-verdict_is verdicts.Accepted opened rounds length = answers.accepted opened rounds length
-verdict_is (verdicts.Refused x k) opened rounds length =
-    record { number = model.number_of (refusal_is x); place = k; opened = opened; rounds = rounds; length = length }
+abbrev pub verdict_is : {A : Type 0} → Outcome A Refused → ℕ → ℕ → ℕ → answers.Answer
+verdict_is (Ok a) opened rounds length = answers.accepted opened rounds length
+verdict_is (Err x) opened rounds length =
+    record { number = model.number_of (refusal_is x.refusal); place = x.place; opened = opened; rounds = rounds; length = length }
 
 abbrev pub answer_is : Answer → answers.Answer
 answer_is a = verdict_is a.verdict a.opened a.rounds a.length

@@ -1,17 +1,17 @@
 -- What the size table means: for rule r its five gap sizes from 5r on, a rule of rank k having k + 1 of them and 0 after them.
-use Rattle.std.specs.Prelude.{ℕ, suc, ◌+◌, ◌*◌, ◌≤◌, ◌<◌, ◌^◌, ◌≡◌, Bool, true, false, cond, List, [], ◌∷◌, ◌++◌, T, ltb, length, take, drop, get_or, replicate}
+use Rattle.std.specs.Prelude.{ℕ, suc, ◌+◌, ◌*◌, ◌≤◌, ◌<◌, ◌^◌, ◌≡◌, cond, List, [], ◌∷◌, ◌++◌, T, ltb, length, take, drop, get_or, replicate, Ok, Err, Result as Outcome}
 use Rattle.std.proofs.lemmas.List.Edits.{sets}
 use Rattle.std.proofs.Math.Option.{none, some}
 use Rattle.model.specs.Bounds.{largest_size}
 use Rattle.model.specs.Words.{class_of}
 use Rattle.model.specs.Trees.{Rule, gap_sizes, size, expansions, lowest_huge}
 use Rattle.model.specs.Refusals.{Result, taken, refused}
-use Rattle.model.specs.File.{read, rule_count}
+use Rattle.model.specs.File.{read}
 use Rattle.laws.specs.Formed.{formed}
-use Rattle.grammar.specs.Meaning.{written_rules, entries, Bodies, place_after, padded, reading_is, reading_of, rule_table}
-use Rattle.grammar.specs.declared.rules.Reading.{Reading}
-use Rattle.grammar.specs.declared.sizes.Measured.{Measured}
-use Rattle.grammar.specs.declared.sizes.Measured.TheVariants.{Fits, Huge}
+use Rattle.grammar.specs.Meaning.{written_rules, entries, Bodies, place_after, padded, refusal_is, reading_is, reading_of, rule_table}
+use Rattle.grammar.specs.declared.refusals.Refused.{Refused}
+use Rattle.grammar.specs.declared.refusals.Refusal.TheVariants.{Huge}
+use Rattle.grammar.specs.declared.rules.Entry.{Entry}
 use Rattle.laws.specs.Sums.{sum, depth_of, own_as}
 
 -- the first k gaps of rule j
@@ -41,38 +41,36 @@ abbrev pub gap_rows : List (List ℕ) → List ℕ
 gap_rows [] = []
 gap_rows (e ∷ es) = gap_row e ++ gap_rows es
 
--- a grammar whose n rules stand in a file: the rule table has their entries, and their bodies stand where it says
-pub record Laid (rules : List Rule) (n : ℕ) (file table : List ℕ) : Type 0 where
-  pub is_formed : T (formed rules)
-  pub count : length rules ≡ n
+-- a grammar whose rules stand in a file: the table's rules are their entries, and their bodies stand where it says
+pub record Laid (R : List Rule) (file : List ℕ) (rules : List Entry) : Type 0 where
+  pub is_formed : T (formed R)
   pub short : length file ≤ 16384
-  pub bodies : Bodies file 18 rules
-  pub within : place_after 18 rules ≤ length file + 8
-  pub long : 768 ≤ length table
-  pub entered : table ≡ padded (length table) (entries 18 rules)
+  pub bodies : Bodies file 18 R
+  pub within : place_after 18 R ≤ length file + 8
+  pub entered : rules ≡ entries 18 R
 
 -- a file whose rules were read and are a grammar
-abbrev pub Measurable : List ℕ → List ℕ → Type 0
-Measurable file table = Laid (written_rules file) (rule_count file) file table
+abbrev pub Measurable : List ℕ → List Entry → Type 0
+Measurable file rules = Laid (written_rules file) file rules
 
 -- the size table once the r lowest rules were measured: their rows, then 0
 pub record RowsBelow (r : ℕ) (rules : List Rule) (sizes : List ℕ) : Type 0 where
-  pub rows : sizes ≡ padded (length sizes) (gap_rows (take r (expansions rules)))
+  pub rows : sizes ≡ padded 0 (length sizes) (gap_rows (take r (expansions rules)))
   pub small : SizesSmall sizes
 
 -- what measuring rule r finds, and leaves in the size table
-abbrev pub RuleMeasured : Bool → ℕ → List Rule → List ℕ → Type 0
-RuleMeasured true r rules after = (size (get_or (expansions rules) r []) ≤ largest_size) × RowsBelow (suc r) rules after
-RuleMeasured false r rules after = largest_size < size (get_or (expansions rules) r [])
+abbrev pub RuleMeasured : {A : Type 0} → Outcome A Refused → ℕ → List Rule → List ℕ → Type 0
+RuleMeasured (Ok a) r rules after = (size (get_or (expansions rules) r []) ≤ largest_size) × RowsBelow (suc r) rules after
+RuleMeasured (Err x) r rules after = (largest_size < size (get_or (expansions rules) r [])) × (x ≡ record { refusal = Huge; place = r + 1 })
 
 -- what measuring leaves in the size table
-abbrev pub MeasuredIs : Measured → List Rule → List ℕ → List ℕ → Type 0
-MeasuredIs Fits rules before after = (lowest_huge 0 (expansions rules) ≡ none) × (after ≡ sets before 0 (gap_rows (expansions rules)))
-MeasuredIs (Huge r) rules before after = (lowest_huge 0 (expansions rules) ≡ some r) × (length after ≡ length before)
+abbrev pub MeasuredIs : {A : Type 0} → Outcome A Refused → List Rule → List ℕ → List ℕ → Type 0
+MeasuredIs (Ok a) rules before after = (lowest_huge 0 (expansions rules) ≡ none) × (after ≡ sets before 0 (gap_rows (expansions rules)))
+MeasuredIs (Err x) rules before after = (r : ℕ) × (lowest_huge 0 (expansions rules) ≡ some r) × (x ≡ record { refusal = Huge; place = r + 1 })
 
 -- the size table after a file was read
 abbrev pub size_table : ℕ → Result (List Rule) → List ℕ
-size_table len (taken rules) = padded len (gap_rows (expansions rules))
+size_table len (taken rules) = padded 0 len (gap_rows (expansions rules))
 size_table len (refused x k) = replicate len 0
 
 -- each body of a grammar that was taken stands in the file where the rule table says
@@ -81,25 +79,28 @@ Stand file (taken rules) = Bodies file 18 rules × (place_after 18 rules ≤ len
 Stand file (refused x k) = Unit {0}
 
 -- The promise of the layer: what was read of the file, and the two tables, are those of the model's reading m.
-pub record ReadIs (file : List ℕ) (r : Reading) (m : Result (List Rule)) (table table' sizes sizes' : List ℕ) : Type 0 where
+pub record ReadIs (file : List ℕ) (r : Outcome ℕ Refused) (m : Result (List Rule)) (table table' : List Entry) (sizes sizes' : List ℕ) : Type 0 where
   pub reading : reading_is r ≡ reading_of m
   pub rules : table' ≡ rule_table (length table) m
   pub gaps : sizes' ≡ size_table (length sizes) m
   pub stands : Stand file m
 
+-- The same where the tables were all 0 before; refused, they hold what was read before the refusal.
+abbrev pub ReadInto : List ℕ → Outcome ℕ Refused → Result (List Rule) → List Entry → List Entry → List ℕ → List ℕ → Type 0
+ReadInto file (Ok n) m table table' sizes sizes' = ReadIs file (Ok n) m table table' sizes sizes'
+ReadInto file (Err x) m table table' sizes sizes' = m ≡ refused (refusal_is x.refusal) x.place
+
 -- A file that is taken denotes a grammar of the model: the rules, where their bodies stand, and the two tables on them. The layers above build on this, and on nothing that reading does on the way.
-pub record Denotes (file : List ℕ) (n : ℕ) (table sizes : List ℕ) : Type 0 where
+pub record Denotes (file : List ℕ) (table : List Entry) (sizes : List ℕ) : Type 0 where
   pub rules : List Rule
   pub is : read file ≡ taken rules
   pub is_formed : T (formed rules)
   pub bounded : (j : ℕ) → j < length rules → size (get_or (expansions rules) j []) ≤ 2 ^ 40
-  pub count : length rules ≡ n
-  pub some : 1 ≤ n
-  pub few : n ≤ 256
-  pub long : 768 ≤ length table
-  pub entered : table ≡ padded (length table) (entries 18 rules)
+  pub some : 1 ≤ length rules
+  pub few : length rules ≤ 256
+  pub entered : table ≡ entries 18 rules
   pub longer : 1280 ≤ length sizes
-  pub gaps : sizes ≡ padded (length sizes) (gap_rows (expansions rules))
+  pub gaps : sizes ≡ padded 0 (length sizes) (gap_rows (expansions rules))
   pub small : SizesSmall sizes
   pub bodies : Bodies file 18 rules
   pub within : place_after 18 rules ≤ length file + 8

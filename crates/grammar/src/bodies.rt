@@ -1,41 +1,41 @@
-// Document 01, "Trees and words": a body's words, read by a cursor that is handed on by value.
+// Document 01, "Trees and words": a body's words, read by a cursor that is handed on by value. A body is lent as its bytes in the file, two for each word.
 ghost use Rattle.std.specs.Prelude.{◌≡◌, ◌+◌, ◌*◌, ◌≤◌, ◌<◌, length, true};
 ghost use Rattle.model.specs.Words.{rank_of, is_parameter, when_parameter};
+ghost use Rattle.model.specs.File.{words_in};
 ghost use Rattle.model.specs.Trees.{all, same, those, parameters, is_legal, is_tree, obeys};
 ghost use Rattle.model.specs.Edits.{subtree};
-ghost use Rattle.grammar.specs.Meaning.{body_in, ranks_in, RanksSmall};
+ghost use Rattle.grammar.specs.Meaning.{ranks_in, RanksSmall};
 
 use crate::file::word_at;
-use crate::words::{Word, sort};
+use crate::rules::Entry;
+use crate::words::Word;
 
-// The rank of a word in a body that may call the r lowest rules of the table.
-pub fn rank_of(table: &[u16], w: u16, r: usize) -> usize
-    requires { 3 * r ≤ length table.now }
-    ensures { result ≡ rank_of (ranks_in r table.now) w }
+// The rank of a word in a body that may call these rules.
+pub fn rank_of(rules: &[Entry], w: u16) -> usize
+    ensures { result ≡ rank_of (ranks_in rules.now) w }
 {
-    match sort(w) {
-        Word::Empty => 0,
+    match Word::from(w) {
         Word::Label => 2,
-        Word::Parameter(_) => 0,
         Word::Call(j) => {
             let j = j as usize;
-            if j < r { table[3 * j] as usize } else { 0 }
+            if j < rules.len() {
+                rules[j].rank as usize
+            } else {
+                0
+            }
         }
-        Word::Illegal => 0,
+        Word::Empty | Word::Parameter(_) | Word::Illegal => 0,
     }
 }
 
 // "6 over the whole body": every word is legal in rule r.
-pub(crate) fn legal(file: &[u8], at: usize, words: usize, r: usize) -> bool
-    requires { at + 2 * words ≤ length file.now }
-    ensures { result ≡ all (is_legal r) (body_in file.now at words) }
+pub(crate) fn legal(body: &[u8], r: usize) -> bool
+    ensures { result ≡ all (is_legal r) (words_in body.now) }
 {
-    let mut i = 0;
-    while i < words {
-        if !legal_word(word_at(file, at + 2 * i), r) {
+    for i in 0..body.len() / 2 {
+        if !legal_word(word_at(body, 2 * i), r) {
             return false;
         }
-        i += 1;
     }
     true
 }
@@ -43,10 +43,8 @@ pub(crate) fn legal(file: &[u8], at: usize, words: usize, r: usize) -> bool
 fn legal_word(w: u16, r: usize) -> bool
     ensures { result ≡ is_legal r w }
 {
-    match sort(w) {
-        Word::Empty => true,
-        Word::Label => true,
-        Word::Parameter(_) => true,
+    match Word::from(w) {
+        Word::Empty | Word::Label | Word::Parameter(_) => true,
         Word::Call(j) => (j as usize) < r,
         Word::Illegal => false,
     }
@@ -64,7 +62,7 @@ impl Cursor {
     pub fn new() -> Self
         ensures { (result.at ≡ 0) × (result.due ≡ 1) }
     {
-        Self { at: 0, due: 1 }
+        Self::at_place(0)
     }
 
     // Before the word at a place one tree is due, the one that begins there.
@@ -87,18 +85,19 @@ impl Cursor {
 }
 
 // The body is one complete tree.
-pub(crate) fn one_tree(file: &[u8], at: usize, words: usize, table: &[u16], r: usize) -> bool
-    requires { (at + 2 * words ≤ length file.now) × (words ≤ 8192) × (3 * r ≤ length table.now) × RanksSmall r table.now }
-    ensures { result ≡ is_tree (ranks_in r table.now) (body_in file.now at words) }
+pub(crate) fn one_tree(body: &[u8], rules: &[Entry]) -> bool
+    requires { (length body.now ≤ 16384) × RanksSmall rules.now }
+    ensures { result ≡ is_tree (ranks_in rules.now) (words_in body.now) }
 {
     let mut c = Cursor::new();
-    while c.at < words {
+    // No `for`: the cursor says the place, document 01 asks for one that is handed on by value.
+    while c.at < body.len() / 2 {
         let i = c.at;
         let due = c.due;
         if due == 0 {
             return false;
         }
-        let rank = rank_of(table, word_at(file, at + 2 * i), r);
+        let rank = rank_of(rules, word_at(body, 2 * i));
         c = c.step(rank);
     }
     let due = c.due;
@@ -106,76 +105,51 @@ pub(crate) fn one_tree(file: &[u8], at: usize, words: usize, table: &[u16], r: u
 }
 
 // The place after the subtree that begins at place i of a body: where no tree is due any more.
-pub fn subtree_end(file: &[u8], at: usize, words: usize, i: usize, table: &[u16], r: usize) -> usize
-    requires { (at + 2 * words ≤ length file.now) × (words ≤ 8192) × (3 * r ≤ length table.now) × RanksSmall r table.now × (i < words)
-        × (is_tree (ranks_in r table.now) (body_in file.now at words) ≡ true) }
-    ensures { (result ≡ i + length (subtree (ranks_in r table.now) i (body_in file.now at words))) × (result ≤ words) }
+pub fn subtree_end(body: &[u8], i: usize, rules: &[Entry]) -> usize
+    requires { (length body.now ≤ 16384) × RanksSmall rules.now × (i < length (words_in body.now))
+        × (is_tree (ranks_in rules.now) (words_in body.now) ≡ true) }
+    ensures { (result ≡ i + length (subtree (ranks_in rules.now) i (words_in body.now))) × (result ≤ length (words_in body.now)) }
 {
     let mut c = Cursor::at_place(i);
     while 0 < c.due {
         let j = c.at;
-        let rank = rank_of(table, word_at(file, at + 2 * j), r);
+        let rank = rank_of(rules, word_at(body, 2 * j));
         c = c.step(rank);
     }
     c.at
 }
 
 // The body holds y1 to yk once each, in that order, and no other parameter.
-pub(crate) fn in_order(file: &[u8], at: usize, words: usize, k: usize) -> bool
-    requires { (at + 2 * words ≤ length file.now) × (words ≤ 8192) }
-    ensures { result ≡ same (those is_parameter (body_in file.now at words)) (parameters k) }
+pub(crate) fn in_order(body: &[u8], k: usize) -> bool
+    requires { length body.now ≤ 16384 }
+    ensures { result ≡ same (those is_parameter (words_in body.now)) (parameters k) }
 {
     let mut next: usize = 1;
-    let mut i = 0;
-    while i < words {
-        let n = parameter(word_at(file, at + 2 * i));
-        if n != 0 {
-            if n != next {
-                return false;
-            }
-            if k < n {
+    for i in 0..body.len() / 2 {
+        if let Some(n) = parameter(word_at(body, 2 * i)) {
+            if n != next || k < n {
                 return false;
             }
             next += 1;
         }
-        i += 1;
     }
     k < next
 }
 
-// The number of a parameter; 0 for any other word.
-pub(crate) fn parameter(w: u16) -> usize
-    ensures { result ≡ when_parameter 0 (λ i. i) w }
+// The number of a parameter; any other word has none.
+pub(crate) fn parameter(w: u16) -> Option<usize>
+    ensures { result ≡ when_parameter None (λ i. Some i) w }
 {
-    match sort(w) {
-        Word::Empty => 0,
-        Word::Label => 0,
-        Word::Parameter(n) => n as usize,
-        Word::Call(_) => 0,
-        Word::Illegal => 0,
+    match Word::from(w) {
+        Word::Parameter(n) => Some(n as usize),
+        Word::Empty | Word::Label | Word::Call(_) | Word::Illegal => None,
     }
 }
 
-// "7": the body obeys document 01 as the body of a rule of rank k above the rules of the table.
-pub(crate) fn shaped(
-    file: &[u8],
-    at: usize,
-    words: usize,
-    k: usize,
-    table: &[u16],
-    r: usize,
-) -> bool
-    requires { (at + 2 * words ≤ length file.now) × (words ≤ 8192) × (3 * r ≤ length table.now) × RanksSmall r table.now }
-    ensures { result ≡ obeys (ranks_in r table.now) k (body_in file.now at words) }
+// "7": the body obeys document 01 as the body of a rule of rank k above these rules.
+pub(crate) fn shaped(body: &[u8], k: usize, rules: &[Entry]) -> bool
+    requires { (length body.now ≤ 16384) × RanksSmall rules.now }
+    ensures { result ≡ obeys (ranks_in rules.now) k (words_in body.now) }
 {
-    if !one_tree(file, at, words, table, r) {
-        return false;
-    }
-    if !in_order(file, at, words, k) {
-        return false;
-    }
-    if words != 1 {
-        return true;
-    }
-    word_at(file, at) != 32769
+    one_tree(body, rules) && in_order(body, k) && (body.len() / 2 != 1 || word_at(body, 0) != 32769)
 }

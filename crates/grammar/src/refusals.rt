@@ -1,7 +1,11 @@
-// Document 01, "Refusal numbers": the closed list, and an answer that names one of it beside its counts.
-#[derive(Clone, Copy)]
+// Document 01, "Refusal numbers": the closed list, a refusal with its place, and an answer that names one of the list beside its counts.
+ghost use Rattle.std.specs.Prelude.{◌≡◌, MatchResult};
+ghost use Rattle.grammar.specs.Meaning.{reading_is, answer_is, query_answer};
+
+// In the order of its numbers, from 1 on.
+#[derive(Clone, Copy, PartialEq, Eq)]
 pub enum Refusal {
-    Short,
+    Short = 1,
     Kind,
     Length,
     Head,
@@ -24,17 +28,54 @@ pub enum Refusal {
     Request,
 }
 
-// Accepted, or a refusal with its place.
-#[derive(Clone, Copy)]
-pub enum Verdict {
-    Accepted,
-    Refused(Refusal, usize),
+impl Refusal {
+    // The refusal of the record with this number, the head's being 0; 0 too where document 01 gives no place.
+    pub fn at(self, place: usize) -> Refused
+        ensures { (result.refusal ≡ self) × (result.place ≡ place) }
+    {
+        Refused {
+            refusal: self,
+            place: place,
+        }
+    }
 }
 
-#[derive(Clone, Copy)]
+// What was read of the record with this number, or its refusal with that place.
+pub(crate) fn placed<T>(read: Result<T, Refusal>, place: usize) -> Result<T, Refused>
+    ensures { MatchResult read (λ a. result ≡ Ok a) (λ x. result ≡ Err (record { refusal = x; place = place })) }
+{
+    match read {
+        Ok(a) => Ok(a),
+        Err(x) => Err(x.at(place)),
+    }
+}
+
+// A refusal with its place.
+#[derive(Clone, Copy, PartialEq, Eq)]
+pub struct Refused {
+    pub refusal: Refusal,
+    pub place: usize,
+}
+
+// Accepted, or refused, beside the counts.
+#[derive(Clone, Copy, PartialEq, Eq)]
 pub struct Answer {
-    pub verdict: Verdict,
+    pub verdict: Result<(), Refused>,
     pub opened: usize,
     pub rounds: usize,
     pub length: usize,
+}
+
+// The answer of a query, by what was read of the file: accepted or refused, with no counts.
+impl From<Result<usize, Refused>> for Answer {
+    ghost from_gives = { λ r a. answer_is a ≡ query_answer (reading_is r) };
+
+    fn from(r: Result<usize, Refused>) -> Answer {
+        Answer {
+            verdict: r.map(|_| ()),
+            opened: 0,
+            rounds: 0,
+            length: 0,
+        }
+    }
 }

@@ -1,121 +1,88 @@
-// Document 01, "File layout": the rules of a file, record by record, into the rule table: for rule r its rank, the place of its body in the file and the
-// number of its body's words, at 3r, 3r + 1 and 3r + 2.
-ghost use Rattle.std.specs.Prelude.{◌≡◌, ◌+◌, ◌*◌, ◌≤◌, ◌<◌, [], ◌∷◌, length, drop, get_or};
-ghost use Rattle.std.proofs.lemmas.List.Edits.{sets};
+// Document 01, "File layout": the rules of a file, record by record, into the rule table: for each rule its rank, and the place and length of its body.
+ghost use Rattle.std.specs.Prelude.{◌≡◌, ◌+◌, ◌*◌, ◌≤◌, ◌<◌, length, take, drop};
 ghost use Rattle.model.specs.Refusals.{taken};
-ghost use Rattle.grammar.specs.Meaning.{ranks_in, RanksSmall, record_result, found_is, rule_result, RulesRead};
+ghost use Rattle.grammar.specs.Meaning.{ranks_in, RanksSmall, record_result, result_is, rule_result, RulesRead};
 
 use crate::bodies::{legal, shaped};
-use crate::file::{Record, record_at, word_at};
-use crate::refusals::Refusal;
+use crate::file::{Kind, record_at, word_at};
+use crate::refusals::{Refusal, Refused, placed};
 
-// What stands at a rule's place: its rank and the number of its body's words, or the first refusal.
-#[derive(Clone, Copy)]
-pub(crate) enum Found {
-    Rule(usize, usize),
-    Refused(Refusal),
+// A rule as it stands in the file: its rank, the place of its body and the number of its body's words.
+#[derive(Clone, Copy, PartialEq, Eq)]
+pub struct Entry {
+    pub rank: u16,
+    pub place: u16,
+    pub words: u16,
 }
 
-// A rule's record at a place, on the table of the r rules below it; last where it is the start rule.
-pub(crate) fn rule_at(file: &[u8], at: usize, table: &[u16], r: usize, last: bool) -> Found
-    requires { (at ≤ length file.now) × (length file.now ≤ 16384) × (3 * r ≤ length table.now) × RanksSmall r table.now }
-    ensures { found_is result ≡ rule_result (ranks_in r table.now) last (drop at file.now) }
-{
-    match record_at(file, at, 2) {
-        Record::Refused(x) => Found::Refused(x),
-        Record::Payload(len) => rule_in(file, at, len, table, r, last),
+impl Entry {
+    // Of a rule that there isn't.
+    pub const NONE: Entry = Entry {
+        rank: 0,
+        place: 0,
+        words: 0,
+    };
+
+    // The rule's body, two bytes for each word.
+    pub fn body(self, file: &[u8]) -> &[u8]
+        requires { self.place + 2 * self.words ≤ length file.now }
+        ensures { result.now ≡ take (2 * self.words) (drop self.place file.now) }
+    {
+        let at = self.place as usize;
+        &file[at..at + 2 * self.words as usize]
     }
+}
+
+// A rule's record at a place, above the rules below it; last where it is the start rule.
+pub(crate) fn rule_at(file: &[u8], at: usize, below: &[Entry], last: bool) -> Result<Entry, Refusal>
+    requires { (at ≤ length file.now) × (length file.now ≤ 16384) × RanksSmall below.now }
+    ensures { result_is result ≡ rule_result (ranks_in below.now) last at (drop at file.now) }
+{
+    let len = record_at(file, at, Kind::Rule)?;
+    rule_in(file, at, len, below, last)
 }
 
 // The same, of a record that is whole: "5, 6 over the whole body, 7".
-fn rule_in(file: &[u8], at: usize, len: usize, table: &[u16], r: usize, last: bool) -> Found
-    requires { (at ≤ length file.now) × (length file.now ≤ 16384) × (3 * r ≤ length table.now) × RanksSmall r table.now
+fn rule_in(
+    file: &[u8],
+    at: usize,
+    len: usize,
+    below: &[Entry],
+    last: bool,
+) -> Result<Entry, Refusal>
+    requires { (at ≤ length file.now) × (length file.now ≤ 16384) × RanksSmall below.now
         × (record_result 2 (drop at file.now) ≡ taken len) × (at + 6 + len ≤ length file.now) × (4 ≤ len) }
-    ensures { found_is result ≡ rule_result (ranks_in r table.now) last (drop at file.now) }
+    ensures { result_is result ≡ rule_result (ranks_in below.now) last at (drop at file.now) }
 {
-    let rank = word_at(file, at + 6) as usize;
-    if 4 < rank {
-        return Found::Refused(Refusal::Rank);
+    let rank = word_at(file, at + 6);
+    let most = if last { 0 } else { 4 };
+    if most < rank {
+        return Err(Refusal::Rank);
     }
-    if last {
-        if rank != 0 {
-            return Found::Refused(Refusal::Rank);
-        }
+    let body = &file[at + 8..at + 6 + len];
+    if !legal(body, below.len()) {
+        return Err(Refusal::Symbol);
     }
-    let words = (len - 2) / 2;
-    if !legal(file, at + 8, words, r) {
-        return Found::Refused(Refusal::Symbol);
+    if !shaped(body, rank as usize, below) {
+        return Err(Refusal::Body);
     }
-    if !shaped(file, at + 8, words, rank, table, r) {
-        return Found::Refused(Refusal::Body);
-    }
-    Found::Rule(rank, words)
+    Ok(Entry {
+        rank: rank,
+        place: (at + 8) as u16,
+        words: ((len - 2) / 2) as u16,
+    })
 }
 
-// What a file was found to be: taken, or the first refusal with its record number.
-#[derive(Clone, Copy)]
-pub enum Reading {
-    Taken(usize),
-    Refused(Refusal, usize),
-}
-
-// The n rules from place 10 on, into the table. Taken: the place after the last.
-pub(crate) fn rules(file: &[u8], n: usize, table: &mut [u16]) -> Reading
-    requires { (10 ≤ length file.now) × (length file.now ≤ 16384) × (n ≤ 256) × (768 ≤ length table.old) }
+// The n rules from place 10 on, into the table: the place after the last, or the first refusal.
+pub(crate) fn rules(file: &[u8], n: usize, table: &mut [Entry]) -> Result<usize, Refused>
+    requires { (10 ≤ length file.now) × (length file.now ≤ 16384) × (n ≤ 256) × (256 ≤ length table.old) }
     ensures { RulesRead result n file.now table.old table.new }
 {
     let mut at = 10;
-    let mut r = 0;
-    while r < n {
-        match rule_at(file, at, table, r, r + 1 == n) {
-            Found::Refused(x) => {
-                return Reading::Refused(x, r + 1);
-            }
-            Found::Rule(rank, words) => {
-                enter(table, r, rank, at + 8, words);
-                at = at + 8 + 2 * words;
-            }
-        }
-        r += 1;
+    for r in 0..n {
+        let rule = placed(rule_at(file, at, &table[..r], r + 1 == n), r + 1)?;
+        table[r] = rule;
+        at += 8 + 2 * rule.words as usize;
     }
-    Reading::Taken(at)
-}
-
-// A rule's three numbers into the table.
-fn enter(table: &mut [u16], r: usize, rank: usize, place: usize, words: usize)
-    requires { (3 * r + 2 < length table.old) × (rank < 65536) × (place < 65536) × (words < 65536) }
-    ensures { table.new ≡ sets table.old (3 * r) (rank ∷ place ∷ words ∷ []) }
-{
-    table[3 * r] = rank as u16;
-    table[3 * r + 1] = place as u16;
-    table[3 * r + 2] = words as u16;
-}
-
-// Of rule r in the table: its rank, the place of its body in the file and the number of its body's words.
-pub fn rank(table: &[u16], r: usize) -> usize
-    requires { 3 * r + 2 < length table.now }
-    ensures { result ≡ get_or table.now (3 * r) 0 }
-{
-    entry(table, 3 * r)
-}
-
-pub fn place(table: &[u16], r: usize) -> usize
-    requires { 3 * r + 2 < length table.now }
-    ensures { result ≡ get_or table.now (3 * r + 1) 0 }
-{
-    entry(table, 3 * r + 1)
-}
-
-pub fn words(table: &[u16], r: usize) -> usize
-    requires { 3 * r + 2 < length table.now }
-    ensures { result ≡ get_or table.now (3 * r + 2) 0 }
-{
-    entry(table, 3 * r + 2)
-}
-
-fn entry(table: &[u16], i: usize) -> usize
-    requires { i < length table.now }
-    ensures { result ≡ get_or table.now i 0 }
-{
-    table[i] as usize
+    Ok(at)
 }

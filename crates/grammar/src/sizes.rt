@@ -1,17 +1,18 @@
 // Document 01, "Parts": the gap sizes of all rules, in a table that is filled from the lowest rule up.
-ghost use Rattle.std.specs.Prelude.{◌≡◌, suc, ◌+◌, ◌*◌, ◌≤◌, ◌<◌, ◌^◌, [], length, get_or, replicate};
+ghost use Rattle.std.specs.Prelude.{◌≡◌, suc, ◌+◌, ◌*◌, ◌≤◌, ◌<◌, ◌^◌, [], length, get_or, replicate, sum};
 ghost use Rattle.model.specs.Bounds.{largest_size};
 ghost use Rattle.model.specs.Words.{rank_of};
-ghost use Rattle.model.specs.File.{rule_count};
+ghost use Rattle.model.specs.File.{words_in};
 ghost use Rattle.model.specs.Trees.{size, expansions};
 ghost use Rattle.laws.specs.Sums.{sum_of};
-ghost use Rattle.grammar.specs.Meaning.{body_in, ranks_in, RanksSmall, written_rules};
+ghost use Rattle.grammar.specs.Meaning.{ranks_in, RanksSmall, written_rules};
 ghost use Rattle.grammar.specs.Measures.{first_gaps, own_by, before_by, SizesSmall, Measurable, RowsBelow, RuleMeasured, MeasuredIs};
 
 use crate::bodies::{parameter, rank_of};
 use crate::file::word_at;
-use crate::rules::{place, words};
-use crate::words::{Word, sort};
+use crate::refusals::{Refusal, Refused};
+use crate::rules::Entry;
+use crate::words::Word;
 
 // The size that no rule is over.
 const LARGEST_SIZE: u64 = 1099511627776;
@@ -29,13 +30,14 @@ pub fn first_gaps(sizes: &[u64], j: usize, k: usize) -> u64
     requires { (5 * j + 5 ≤ length sizes.now) × (k ≤ 5) × SizesSmall sizes.now }
     ensures { (result ≡ first_gaps sizes.now j k) × (result ≤ 5 * 2 ^ 40) }
 {
-    let mut sum: u64 = 0;
-    let mut i = 0;
-    while i < k {
-        sum += sizes[5 * j + i];
-        i += 1;
-    }
-    sum
+    sum_of_gaps(&sizes[5 * j..5 * j + k])
+}
+
+fn sum_of_gaps(gaps: &[u64]) -> u64
+    requires { sum gaps.now < 2 ^ 64 }
+    ensures { result ≡ sum gaps.now }
+{
+    gaps.iter().sum()
 }
 
 // The nodes that a word itself produces before its k-th child; all of them with k = 5.
@@ -43,50 +45,36 @@ pub fn own(sizes: &[u64], k: usize, w: u16) -> u64
     requires { (1280 ≤ length sizes.now) × (k ≤ 5) × SizesSmall sizes.now }
     ensures { (result ≡ own_by sizes.now k w) × (result ≤ 5 * 2 ^ 40) }
 {
-    match sort(w) {
-        Word::Empty => 1,
-        Word::Label => 1,
+    match Word::from(w) {
         Word::Parameter(_) => 0,
         Word::Call(j) => first_gaps(sizes, j as usize, k),
-        Word::Illegal => 1,
+        Word::Empty | Word::Label | Word::Illegal => 1,
     }
 }
 
 // All nodes that the words of a body produce.
-pub(crate) fn total(file: &[u8], at: usize, words: usize, sizes: &[u64]) -> u64
-    requires { (at + 2 * words ≤ length file.now) × (words ≤ 8192) × (1280 ≤ length sizes.now) × SizesSmall sizes.now }
-    ensures { (result ≡ sum_of (own_by sizes.now 5) (body_in file.now at words)) × (result ≤ 8192 * (5 * 2 ^ 40)) }
+pub(crate) fn total(body: &[u8], sizes: &[u64]) -> u64
+    requires { (length body.now ≤ 16384) × (1280 ≤ length sizes.now) × SizesSmall sizes.now }
+    ensures { (result ≡ sum_of (own_by sizes.now 5) (words_in body.now)) × (result ≤ 8192 * (5 * 2 ^ 40)) }
 {
     let mut sum: u64 = 0;
-    let mut i = words;
-    while 0 < i {
-        i -= 1;
-        sum += own(sizes, 5, word_at(file, at + 2 * i));
+    for i in (0..body.len() / 2).rev() {
+        sum += own(sizes, 5, word_at(body, 2 * i));
     }
     sum
 }
 
-// The nodes before the word at a place of a body, read from the place to the left: the trees between a word and the place are counted, so that a word
-// with more children than those is known to stand over the place.
-pub(crate) fn before(
-    file: &[u8],
-    at: usize,
-    place: usize,
-    table: &[u16],
-    r: usize,
-    sizes: &[u64],
-) -> u64
-    requires { (at + 2 * place ≤ length file.now) × (place ≤ 8192) × (1280 ≤ length sizes.now) × SizesSmall sizes.now
-        × (3 * r ≤ length table.now) × RanksSmall r table.now }
-    ensures { (result ≡ before_by (rank_of (ranks_in r table.now)) sizes.now (body_in file.now at place)) × (result ≤ 8192 * (5 * 2 ^ 40)) }
+// The nodes before the place where these first words of a body end, read from the place to the left: the trees between a word and the place are counted, so that a
+// word with more children than those is known to stand over the place.
+pub(crate) fn before(front: &[u8], rules: &[Entry], sizes: &[u64]) -> u64
+    requires { (length front.now ≤ 16384) × (1280 ≤ length sizes.now) × SizesSmall sizes.now × RanksSmall rules.now }
+    ensures { (result ≡ before_by (rank_of (ranks_in rules.now)) sizes.now (words_in front.now)) × (result ≤ 8192 * (5 * 2 ^ 40)) }
 {
     let mut sum: u64 = 0;
     let mut depth: usize = 0;
-    let mut i = place;
-    while 0 < i {
-        i -= 1;
-        let w = word_at(file, at + 2 * i);
-        let rank = rank_of(table, w, r);
+    for i in (0..front.len() / 2).rev() {
+        let w = word_at(front, 2 * i);
+        let rank = rank_of(rules, w);
         if depth < rank {
             sum += own(sizes, depth + 1, w);
             depth = 0;
@@ -98,60 +86,46 @@ pub(crate) fn before(
     sum
 }
 
-// What measuring finds: every rule within the largest size, or the lowest rule that is over it.
-#[derive(Clone, Copy)]
-pub(crate) enum Measured {
-    Fits,
-    Huge(usize),
-}
-
-// The gaps of the n rules, from the lowest up, into the size table, which is all 0 before.
-pub(crate) fn measure(file: &[u8], n: usize, table: &[u16], sizes: &mut [u64]) -> Measured
-    requires { Measurable file.now table.now × (n ≡ rule_count file.now) × (1280 ≤ length sizes.old) × (sizes.old ≡ replicate (length sizes.old) 0) }
+// The gaps of the rules, from the lowest up, into the size table, which is all 0 before; refused with the lowest rule that is over the largest size.
+pub(crate) fn measure(file: &[u8], rules: &[Entry], sizes: &mut [u64]) -> Result<(), Refused>
+    requires { Measurable file.now rules.now × (1280 ≤ length sizes.old) × (sizes.old ≡ replicate (length sizes.old) 0) }
     ensures { MeasuredIs result (written_rules file.now) sizes.old sizes.new }
 {
-    let mut r = 0;
-    while r < n {
-        if !measure_rule(file, table, r, sizes) {
-            return Measured::Huge(r);
-        }
-        r += 1;
+    for r in 0..rules.len() {
+        measure_rule(file, rules, r, sizes)?;
     }
-    Measured::Fits
+    Ok(())
 }
 
-// The gaps of rule r into the size table, by the gaps of the rules below it; false where its size is over the largest.
-fn measure_rule(file: &[u8], table: &[u16], r: usize, sizes: &mut [u64]) -> bool
-    requires { Measurable file.now table.now × (r < rule_count file.now) × (1280 ≤ length sizes.old) × RowsBelow r (written_rules file.now) sizes.old }
+// The gaps of rule r into the size table, by the gaps of the rules below it; refused where its size is over the largest.
+fn measure_rule(file: &[u8], rules: &[Entry], r: usize, sizes: &mut [u64]) -> Result<(), Refused>
+    requires { Measurable file.now rules.now × (r < length rules.now) × (1280 ≤ length sizes.old) × RowsBelow r (written_rules file.now) sizes.old }
     ensures { RuleMeasured result r (written_rules file.now) sizes.new }
 {
-    let all = total(file, place(table, r), words(table, r), sizes);
+    let all = total(rules[r].body(file), sizes);
     if LARGEST_SIZE < all {
-        return false;
+        return Err(Refusal::Huge.at(r + 1));
     }
-    gaps(file, table, r, all, sizes);
-    true
+    gaps(file, rules, r, all, sizes);
+    Ok(())
 }
 
 // The same for a rule of the given size: a gap is what stands before a parameter without what stands before the one before it.
-fn gaps(file: &[u8], table: &[u16], r: usize, all: u64, sizes: &mut [u64])
-    requires { Measurable file.now table.now × (r < rule_count file.now) × (1280 ≤ length sizes.old) × RowsBelow r (written_rules file.now) sizes.old
+fn gaps(file: &[u8], rules: &[Entry], r: usize, all: u64, sizes: &mut [u64])
+    requires { Measurable file.now rules.now × (r < length rules.now) × (1280 ≤ length sizes.old) × RowsBelow r (written_rules file.now) sizes.old
         × (all ≡ size (get_or (expansions (written_rules file.now)) r [])) × (all ≤ largest_size) }
     ensures { RowsBelow (suc r) (written_rules file.now) sizes.new }
 {
-    let at = place(table, r);
-    let words = words(table, r);
+    let body = rules[r].body(file);
     let mut last: u64 = 0;
     let mut m = 5 * r;
-    let mut i = 0;
-    while i < words {
-        if parameter(word_at(file, at + 2 * i)) != 0 {
-            let b = before(file, at, i, table, r, sizes);
+    for i in 0..body.len() / 2 {
+        if parameter(word_at(body, 2 * i)).is_some() {
+            let b = before(&body[..2 * i], &rules[..r], sizes);
             sizes[m] = b - last;
             last = b;
             m += 1;
         }
-        i += 1;
     }
     sizes[m] = all - last;
 }

@@ -4,7 +4,7 @@ ghost use Rattle.model.specs.Words.{class_of};
 ghost use Rattle.grammar.specs.Meaning.{class_is};
 
 // The rows of the table; a parameter's number is from 1, a call names the rule that it calls.
-#[derive(Clone, Copy)]
+#[derive(Clone, Copy, PartialEq, Eq)]
 pub enum Word {
     Empty,
     Label,
@@ -13,14 +13,17 @@ pub enum Word {
     Illegal,
 }
 
-pub fn sort(w: u16) -> Word
-    ensures { class_is result ≡ class_of w }
-{
-    match w {
-        0 => Word::Empty,
-        1..=32767 => Word::Label,
-        32769..=32772 => Word::Parameter(w - 32768),
-        49152..=49407 => Word::Call(w - 49152),
-        _ => Word::Illegal,
+// "All other words are illegal": the row of a 16-bit word.
+impl From<u16> for Word {
+    ghost from_gives = { λ w r. class_is r ≡ class_of w };
+
+    fn from(w: u16) -> Word {
+        match w {
+            0 => Word::Empty,
+            1..=32767 => Word::Label,
+            32769..=32772 => Word::Parameter(w - 32768),
+            49152..=49407 => Word::Call(w - 49152),
+            _ => Word::Illegal,
+        }
     }
 }

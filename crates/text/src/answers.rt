@@ -9,7 +9,7 @@ use crate::lines::put;
 use crate::numbers::put_decimal;
 use crate::refusals::{name, number};
 use arrayvec::ArrayVec;
-use grammar::refusals::{Answer, Refusal, Verdict};
+use grammar::refusals::{Answer, Refused};
 
 // `accepted`, or `refused N NAME place P`.
 pub fn put_answer<const N: usize>(a: Answer, out: &mut ArrayVec<u8, N>)
@@ -18,8 +18,8 @@ pub fn put_answer<const N: usize>(a: Answer, out: &mut ArrayVec<u8, N>)
     ensures len { array_vec_len out.new ≤ array_vec_len out.old + 80 }
 {
     match a.verdict {
-        Verdict::Accepted => put(b"accepted\n", out),
-        Verdict::Refused(x, record) => put_refusal(x, record, out),
+        Ok(()) => put(b"accepted\n", out),
+        Err(x) => put_refusal(x, out),
     }
 }
 
@@ -27,19 +27,19 @@ pub fn put_answer<const N: usize>(a: Answer, out: &mut ArrayVec<u8, N>)
 pub fn is_accepted(a: Answer) -> bool
     ensures { result ≡ eqb (answer_is a).number 0 }
 {
-    matches!(a.verdict, Verdict::Accepted)
+    a.verdict.is_ok()
 }
 
-fn put_refusal<const N: usize>(x: Refusal, record: usize, out: &mut ArrayVec<u8, N>)
+fn put_refusal<const N: usize>(x: Refused, out: &mut ArrayVec<u8, N>)
     requires { array_vec_len out.old + 80 ≤ N }
-    ensures items { out.new.items ≡ out.old.items ++ refusal_line (number_of (refusal_is x)) «record» }
+    ensures items { out.new.items ≡ out.old.items ++ refusal_line (number_of (refusal_is x.refusal)) x.place }
     ensures len { array_vec_len out.new ≤ array_vec_len out.old + 80 }
 {
     put(b"refused ", out);
-    put_decimal(number(x) as u64, out);
+    put_decimal(number(x.refusal) as u64, out);
     put(b" ", out);
-    put(name(x), out);
+    put(name(x.refusal), out);
     put(b" place ", out);
-    put_decimal(record as u64, out);
+    put_decimal(x.place as u64, out);
     put(b"\n", out);
 }

@@ -5,16 +5,16 @@ ghost use Rattle.text.specs.Numbers.{decimal, hex_word, separator_after, word_li
 
 use crate::lines::put;
 use arrayvec::ArrayVec;
+use itoa::Buffer;
 
 // A number in decimal digits.
+#[tactic(auto, using(crate::proofs::Decimals::decimal_is))]
 pub fn put_decimal<const N: usize>(n: u64, out: &mut ArrayVec<u8, N>)
     requires { array_vec_len out.old + 20 ≤ N }
     ensures items { out.new.items ≡ out.old.items ++ decimal n }
     ensures len { array_vec_len out.new ≤ array_vec_len out.old + 20 }
 {
-    let mut digits = [0u8; 20];
-    let k = io::decimal(n, &mut digits);
-    put(&digits[..k], out);
+    put(Buffer::new().format(n).as_bytes(), out);
 }
 
 // A word in four hexadecimal digits.

@@ -3,13 +3,13 @@ ghost use Rattle.std.specs.Prelude.{◌≡◌, ◌≤◌, length};
 ghost use Rattle.model.specs.Refusals.{number_of, name_of};
 ghost use Rattle.grammar.specs.Meaning.{refusal_is, verdict_is};
 
-use grammar::refusals::{Refusal, Verdict};
+use grammar::refusals::{Refusal, Refused};
 
-// The number of the table's first column, whose rows stand in the enum's order.
+// The number of the table's first column, which the enum has.
 pub(crate) fn number(x: Refusal) -> usize
     ensures { result ≡ number_of (refusal_is x) }
 {
-    x as usize + 1
+    x as usize
 }
 
 // The name of the table's second column.
@@ -42,21 +42,21 @@ pub(crate) fn name(x: Refusal) -> &'static [u8]
 }
 
 // An answer's number: 0 = accepted.
-pub fn verdict_number(v: Verdict) -> usize
+pub fn verdict_number(v: Result<(), Refused>) -> usize
     ensures { result ≡ (verdict_is v 0 0 0).number }
 {
     match v {
-        Verdict::Accepted => 0,
-        Verdict::Refused(x, _) => number(x),
+        Ok(()) => 0,
+        Err(x) => number(x.refusal),
     }
 }
 
 // An answer's place, which stands beside its refusal; 0 where it is accepted.
-pub fn verdict_place(v: Verdict) -> usize
+pub fn verdict_place(v: Result<(), Refused>) -> usize
     ensures { result ≡ (verdict_is v 0 0 0).place }
 {
     match v {
-        Verdict::Accepted => 0,
-        Verdict::Refused(_, record) => record,
+        Ok(()) => 0,
+        Err(x) => x.place,
     }
 }

@@ -1,4 +1,5 @@
 pub mod Task
 pub mod Inputs
+pub mod Replies
 pub mod Tallies
 pub mod Runs

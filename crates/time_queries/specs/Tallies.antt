@@ -1,8 +1,8 @@
 -- What is kept of the answers.
 use Rattle.std.specs.Prelude.{ℕ, ◌+◌, ◌*◌, ◌%◌, ◌^◌, cond, List, [], ◌∷◌, ◌++◌, ◌==◌}
-use Rattle.model.specs.Answers.{Answer}
 use Rattle.text.specs.Numbers.{decimal}
 use Rattle.time_queries.specs.declared.tallies.Tally.{Tally}
+use Rattle.time_queries.specs.Replies.{Reply}
 
 abbrev pub nothing : Tally
 nothing = record { accepted = 0; sum = 0 }
@@ -11,17 +11,13 @@ nothing = record { accepted = 0; sum = 0 }
 abbrev pub mixed : ℕ → ℕ → ℕ
 mixed sum x = (31 * sum + x % 2 ^ 32) % 2 ^ 32
 
--- with one more answer, and the number that came with it
-unfoldable pub tallied : Tally → Answer → ℕ → Tally
-tallied t a value =
+-- with one more reply
+unfoldable pub tallied : Tally → Reply → Tally
+tallied t r =
     record {
-      accepted = cond (a.number == 0) (t.accepted + 1) t.accepted;
-      sum = mixed (mixed (mixed t.sum a.number) a.place) value;
+      accepted = cond (r.answer.number == 0) (t.accepted + 1) t.accepted;
+      sum = mixed (mixed (mixed t.sum r.answer.number) r.answer.place) r.value;
     }
-
-abbrev pub sum : List ℕ → ℕ
-sum [] = 0
-sum (w ∷ ws) = w + sum ws
 
 -- "nodes 11 accepted 5 sum 12345"
 abbrev pub tally_line : ℕ → Tally → List ℕ

@@ -2,8 +2,6 @@
 ghost use Rattle.std.specs.Prelude.{◌≡◌, ◌≤◌, length};
 ghost use Rattle.time_queries.specs.Inputs.{flipped, other, next_start, starts_of, window_length};
 
-use std::num::wrapping_add_u64;
-
 // Changes the first word of rule 0's body by 256, and the next time back: a label under 256 stays a label, so that an accepted file stays accepted.
 pub(crate) fn flip(file: &mut [u8])
     ensures { file.new ≡ flipped file.old }
@@ -16,7 +14,7 @@ pub(crate) fn flip(file: &mut [u8])
 fn other_byte(b: u8) -> u8
     ensures { result ≡ other b }
 {
-    if b % 2 == 0 { b + 1 } else { b - 1 }
+    b ^ 1
 }
 
 // A step of about 0.618 times 10^12, so that positions spread over a large tree and not over its first nodes alone.
@@ -24,7 +22,7 @@ pub(crate) fn next_start(p: u64, starts: u64) -> u64
     requires { 1 ≤ starts }
     ensures { result ≡ next_start starts p }
 {
-    wrapping_add_u64(p, 618033988749) % starts
+    p.wrapping_add(618033988749) % starts
 }
 
 // How many positions a window of the given length can start at in a tree of so many nodes; 1 where there is none, so that the call is made and refused.
@@ -32,18 +30,12 @@ pub(crate) fn starts_of(nodes: u64, length: u64) -> u64
     requires { 1 ≤ length }
     ensures { (result ≡ starts_of nodes length) × (1 ≤ result) }
 {
-    if nodes < length {
-        return 1;
-    }
-    nodes - length + 1
+    nodes.saturating_sub(length) + 1
 }
 
 // About half of a small tree, so that windows differ there too; at most 256 words.
 pub(crate) fn window_length(nodes: u64) -> usize
     ensures { (result ≡ window_length nodes) × (1 ≤ result) × (result ≤ 256) }
 {
-    if nodes < 510 {
-        return (nodes / 2 + 1) as usize;
-    }
-    256
+    (nodes / 2 + 1).min(256) as usize
 }

@@ -12,73 +12,35 @@ mod runs;
 mod tallies;
 mod task;
 
-ghost use Rattle.std.specs.Prelude.{◌≡◌, length};
-ghost use Rattle.io.specs.Counts.{IsPrefixLen};
-
+use arrayvec::ArrayVec;
 use runs::put_run;
-use std::env::FillError;
-use std::rt::Env;
-use task::{Task, parse};
+use task::parse;
+use text::arguments::{argument, arguments};
 
 const STDIN: i32 = 0;
 
 const STDOUT: i32 = 1;
 
+// An argument of more than 32 bytes is no part of a task, and no task has four arguments. A wrong task reads nothing.
 fn main(rt: HostRuntime) {
-    let task = asked(&rt);
-    if let Task::Wrong = task {
+    let mut name = [0; 32];
+    let mut number = [0; 32];
+    let task = parse(
+        arguments::<4>(&rt),
+        argument(&rt, 1, &mut name),
+        argument(&rt, 2, &mut number),
+    );
+    let Some(task) = task else {
         io::write_all(
             STDOUT,
             b"usage: time_queries check | count | label | window TIMES, the file on standard input\n",
         );
         return;
-    }
-    let mut file = file_space();
+    };
+    // One byte over the largest file is enough to answer 9.
+    let mut file = [0; 16385];
     let n = io::read_full(STDIN, &mut file);
-    let mut out = text_space();
-    let end = put_run(task, &mut file[..n], &mut out);
-    io::write_all(STDOUT, &out[..end]);
-}
-
-// An argument of more than 32 bytes is no part of a task.
-fn asked(rt: &impl Env) -> Task {
-    let mut name = [0u8; 32];
-    let mut number = [0u8; 32];
-    let a = argument(rt, 1, &mut name);
-    let b = argument(rt, 2, &mut number);
-    parse(arguments(rt), &name[..a], &number[..b])
-}
-
-// An argument's length, with its bytes at the start of `text`; 0 where it is missing or too long.
-fn argument(rt: &impl Env, i: usize, text: &mut [u8]) -> usize
-    ensures { IsPrefixLen result text.new }
-{
-    match rt.arg(i, text) {
-        Ok(n) => n,
-        Err(_) => 0,
-    }
-}
-
-// How many arguments there are, the program's name among them. No task has four, so what comes after the fourth isn't counted.
-fn arguments(rt: &impl Env) -> usize {
-    let mut text = [0u8; 32];
-    for i in 0..4 {
-        if let Err(FillError::NotPresent) = rt.arg(i, &mut text) {
-            return i;
-        }
-    }
-    4
-}
-
-// One byte over the largest file is enough to answer 9.
-fn file_space() -> [u8; 16385]
-    ensures { 16385 ≡ length result }
-{
-    [0; 16385]
-}
-
-fn text_space() -> [u8; 128]
-    ensures { 128 ≡ length result }
-{
-    [0; 128]
+    let mut out: ArrayVec<u8, 128> = ArrayVec::new();
+    put_run(task, &mut file[..n], &mut out);
+    io::write_all(STDOUT, &out);
 }

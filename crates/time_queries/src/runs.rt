@@ -1,108 +1,112 @@
 // The calls, one after the other.
-ghost use Rattle.std.specs.Prelude.{◌≡◌, ◌≤◌, length};
-ghost use Rattle.io.specs.Counts.{IsPrefixLen};
-ghost use Rattle.text.specs.Lines.{Put};
-ghost use Rattle.grammar.specs.Meaning.{count_is};
-ghost use Rattle.time_queries.specs.Inputs.{varied};
-ghost use Rattle.time_queries.specs.Runs.{whole_of, wholes, labels, windows, windows_of, tally_of, run_line};
+ghost use Rattle.std.specs.Prelude.{◌≡◌, ℕ, ◌+◌, ◌^◌, ◌<◌, ◌≤◌, ◌++◌, List, length, sum};
+ghost use Rattle.arrayvec.specs.ArrayVec.{array_vec_len};
+ghost use Rattle.time_queries.specs.Inputs.{varied, start_at};
+ghost use Rattle.time_queries.specs.Replies.{Reply as Replied, reply_is, checked_reply, counted_reply, label_reply, window_reply};
+ghost use Rattle.time_queries.specs.Runs.{tallies, tally_of, run_line};
 
 use crate::inputs::{flip, next_start, starts_of, window_length};
-use crate::tallies::{Tally, empty, put_tally, sum_of, with_answer};
+use crate::tallies::{Reply, Tally};
 use crate::task::Task;
-use grammar::answers::{Counted, check, count};
+use arrayvec::ArrayVec;
+use grammar::answers::{check, count};
 use queries::label::label;
 use queries::window::window;
+use text::operations::Operation;
 
-// Makes the calls, and puts their line at the start of `out`.
-pub(crate) fn put_run(task: Task, file: &mut [u8], out: &mut [u8]) -> usize
-    requires { 128 ≤ length out.old }
-    ensures { Put (run_line task file.old) out.old 0 out.new result × IsPrefixLen result out.new }
+// Makes the calls, and puts their line.
+pub(crate) fn put_run<const N: usize>(task: Task, file: &mut [u8], out: &mut ArrayVec<u8, N>)
+    requires { array_vec_len out.old + 100 ≤ N }
+    ensures { out.new.items ≡ out.old.items ++ run_line task file.old }
 {
-    let counted = count(file);
-    let nodes = counted.nodes;
-    let t = run(task, file, nodes);
-    put_tally(nodes, t, out)
+    let nodes = count(file).nodes;
+    run(task, file, nodes).put(nodes, out);
 }
 
-// By the operation, on a file of so many nodes. A wrong task makes no call.
+// By the operation, on a file of so many nodes.
 fn run(task: Task, file: &mut [u8], nodes: u64) -> Tally
     ensures { result ≡ tally_of task file.old nodes }
 {
-    match task {
-        Task::Check(times) => run_whole(file, false, times),
-        Task::Count(times) => run_whole(file, true, times),
-        Task::Label(times) => run_labels(file, starts_of(nodes, 1), times),
-        Task::Window(times) => run_windows(file, nodes, times),
-        Task::Wrong => empty(),
+    match task.operation {
+        Operation::Check => run_whole(
+            file,
+            task.times,
+            |file| Reply {
+                answer: check(file),
+                value: 0,
+            },
+        ),
+        Operation::Count => run_whole(file, task.times, |file| Reply::from(count(file))),
+        Operation::Label => {
+            let file = &*file;
+            run_at(
+                starts_of(nodes, 1),
+                task.times,
+                |p| Reply::from(label(file, p)),
+            )
+        }
+        Operation::Window => {
+            let file = &*file;
+            let length = window_length(nodes);
+            run_at(
+                starts_of(nodes, length as u64),
+                task.times,
+                |p| windowed(file, length, p),
+            )
+        }
     }
 }
 
-// The whole file asked about: counted, or only checked, which comes with no number.
-fn whole(file: &[u8], counting: bool) -> Counted
-    ensures { count_is result ≡ whole_of counting file.now }
+// Each call on the whole file, which is changed between.
+fn run_whole<F: Fn(&[u8]) -> Reply>(file: &mut [u8], times: u64, call: F) -> Tally
+    ghost replies: { List ℕ → Replied }
+    requires callable { F.IsAlwaysCallable call }
+    requires replies { (f : _) (r : _) → F.post call f r → reply_is r ≡ replies f.now }
+    ensures { (result ≡ tallies (λ i. replies (varied file.old i)) times) × (file.new ≡ varied file.old times) }
 {
-    if counting {
-        return count(file);
-    }
-    Counted {
-        answer: check(file),
-        nodes: 0,
-    }
-}
-
-fn run_whole(file: &mut [u8], counting: bool, times: u64) -> Tally
-    ensures { (result ≡ wholes counting file.old times) × (file.new ≡ varied file.old times) }
-{
-    let mut t = empty();
-    let mut i = 0;
-    while i < times {
-        let counted = whole(file, counting);
-        let answer = counted.answer;
-        t = with_answer(t, answer, counted.nodes);
+    let mut t = Tally::default();
+    for _ in 0..times {
+        t = t.with(call(file));
         flip(file);
-        i += 1;
     }
     t
 }
 
-fn run_labels(file: &[u8], starts: u64, times: u64) -> Tally
-    requires { 1 ≤ starts }
-    ensures { result ≡ labels file.now starts times }
+// Each call at another position.
+fn run_at<F: Fn(u64) -> Reply>(starts: u64, times: u64, call: F) -> Tally
+    ghost replies: { ℕ → Replied }
+    requires start { 1 ≤ starts }
+    requires callable { F.IsAlwaysCallable call }
+    requires replies { (p : ℕ) (r : _) → p < 2 ^ 64 → F.post call p r → reply_is r ≡ replies p }
+    ensures { result ≡ tallies (λ i. replies (start_at starts i)) times }
 {
-    let mut t = empty();
+    let mut t = Tally::default();
     let mut p = 0;
-    let mut i = 0;
-    while i < times {
-        let labelled = label(file, p);
-        let answer = labelled.answer;
-        t = with_answer(t, answer, labelled.word as u64);
+    for _ in 0..times {
+        t = t.with(call(p));
         p = next_start(p, starts);
-        i += 1;
     }
     t
 }
 
-fn run_windows(file: &[u8], nodes: u64, times: u64) -> Tally
-    ensures { result ≡ windows file.now nodes times }
+// A window comes with the sum of its words.
+fn windowed(file: &[u8], length: usize, p: u64) -> Reply
+    requires { length ≤ 256 }
+    ensures { reply_is result ≡ window_reply file.now length p }
 {
-    let mut words = [0u16; 256];
-    let length = window_length(nodes);
-    let starts = starts_of(nodes, length as u64);
-    windows_into(file, starts, times, &mut words[..length])
+    let mut words = [0; 256];
+    let words = &mut words[..length];
+    let answer = window(file, p, words);
+    Reply {
+        answer,
+        value: sum_of(words),
+    }
 }
 
-fn windows_into(file: &[u8], starts: u64, times: u64, words: &mut [u16]) -> Tally
-    requires { (1 ≤ starts) × (length words.old ≤ 256) }
-    ensures { result ≡ windows_of file.now starts (length words.old) times }
+// A window's words, added up.
+fn sum_of(words: &[u16]) -> u64
+    requires { length words.now ≤ 256 }
+    ensures { result ≡ sum words.now }
 {
-    let mut t = empty();
-    let mut p = 0;
-    let mut i = 0;
-    while i < times {
-        let answer = window(file, p, words);
-        t = with_answer(t, answer, sum_of(words));
-        p = next_start(p, starts);
-        i += 1;
-    }
-    t
+    words.iter().map(|w| u64::from(*w)).sum()
 }

@@ -1,48 +1,85 @@
 // What is kept of the answers: how many were accepted, and a checksum of all of them, in order.
-ghost use Rattle.std.specs.Prelude.{◌≡◌, ◌+◌, ◌^◌, ◌<◌, ◌≤◌, length};
-ghost use Rattle.text.specs.Lines.{Put};
-ghost use Rattle.grammar.specs.Meaning.{answer_is};
-ghost use Rattle.time_queries.specs.Tallies.{nothing, tallied, mixed, sum, tally_line};
+ghost use Rattle.std.specs.Prelude.{◌≡◌, ◌+◌, ◌^◌, ◌<◌, ◌≤◌, ◌++◌};
+ghost use Rattle.arrayvec.specs.ArrayVec.{array_vec_len};
+ghost use Rattle.time_queries.specs.Replies.{reply_is};
+ghost use Rattle.time_queries.specs.Tallies.{tallied, mixed, tally_line};
 
+use arrayvec::ArrayVec;
+use grammar::answers::Counted;
 use grammar::refusals::Answer;
+use queries::label::Labelled;
 use text::lines::put;
 use text::numbers::put_decimal;
 use text::refusals::{verdict_number, verdict_place};
 
+// An answer, and the number that came with it.
 #[derive(Clone, Copy)]
+pub struct Reply {
+    pub answer: Answer,
+    pub value: u64,
+}
+
+impl From<Counted> for Reply {
+    ghost from_gives = { λ c r. (r.answer ≡ c.answer) × (r.value ≡ c.nodes) };
+
+    fn from(counted: Counted) -> Reply {
+        Reply {
+            answer: counted.answer,
+            value: counted.nodes,
+        }
+    }
+}
+
+impl From<Labelled> for Reply {
+    ghost from_gives = { λ l r. (r.answer ≡ l.answer) × (r.value ≡ l.word) };
+
+    fn from(labelled: Labelled) -> Reply {
+        Reply {
+            answer: labelled.answer,
+            value: u64::from(labelled.word),
+        }
+    }
+}
+
+// Before the first call both are 0.
+#[derive(Clone, Copy, Default)]
 pub struct Tally {
     pub accepted: u64,
     pub sum: u32,
 }
 
-// Before the first call.
-pub(crate) fn empty() -> Tally
-    ensures { result ≡ nothing }
-{
-    Tally {
-        accepted: 0,
-        sum: 0,
+impl Tally {
+    // With one more reply.
+    #[tactic(auto, unfolding(crate::specs::Tallies::tallied))]
+    pub(crate) fn with(self, reply: Reply) -> Tally
+        requires { self.accepted + 1 < 2 ^ 64 }
+        ensures { (result ≡ tallied self (reply_is reply)) × (result.accepted ≤ self.accepted + 1) }
+    {
+        let verdict = reply.answer.verdict;
+        let number = verdict_number(verdict);
+        let place = verdict_place(verdict);
+        let sum = mix(mix(mix(self.sum, number as u64), place as u64), reply.value);
+        if number == 0 {
+            return Tally {
+                accepted: self.accepted + 1,
+                sum,
+            };
+        }
+        Tally { sum, ..self }
     }
-}
 
-// With one more answer, and the number that came with it.
-pub(crate) fn with_answer(t: Tally, a: Answer, value: u64) -> Tally
-    requires { t.accepted + 1 < 2 ^ 64 }
-    ensures { (result ≡ tallied t (answer_is a) value) × (result.accepted ≤ t.accepted + 1) }
-{
-    let verdict = a.verdict;
-    let number = verdict_number(verdict);
-    let place = verdict_place(verdict);
-    let sum = mix(mix(mix(t.sum, number as u64), place as u64), value);
-    if number == 0 {
-        return Tally {
-            accepted: t.accepted + 1,
-            sum: sum,
-        };
-    }
-    Tally {
-        accepted: t.accepted,
-        sum: sum,
+    // "nodes 11 accepted 5 sum 12345"
+    pub(crate) fn put<const N: usize>(self, nodes: u64, out: &mut ArrayVec<u8, N>)
+        requires { array_vec_len out.old + 100 ≤ N }
+        ensures { out.new.items ≡ out.old.items ++ tally_line nodes self }
+    {
+        put(b"nodes ", out);
+        put_decimal(nodes, out);
+        put(b" accepted ", out);
+        put_decimal(self.accepted, out);
+        put(b" sum ", out);
+        put_decimal(self.sum as u64, out);
+        put(b"\n", out);
     }
 }
 
@@ -51,32 +88,4 @@ fn mix(sum: u32, x: u64) -> u32
     ensures { result ≡ mixed sum x }
 {
     ((31 * sum as u64 + x % 4294967296) % 4294967296) as u32
-}
-
-// A window's words, added up.
-pub(crate) fn sum_of(words: &[u16]) -> u64
-    requires { length words.now ≤ 256 }
-    ensures { result ≡ sum words.now }
-{
-    let mut total: u64 = 0;
-    let mut i = words.len();
-    while 0 < i {
-        i -= 1;
-        total += words[i] as u64;
-    }
-    total
-}
-
-// "nodes 11 accepted 5 sum 12345"
-pub(crate) fn put_tally(nodes: u64, t: Tally, out: &mut [u8]) -> usize
-    requires { 100 ≤ length out.old }
-    ensures { Put (tally_line nodes t) out.old 0 out.new result × (result ≤ 100) }
-{
-    let mut end = put(b"nodes ", out, 0);
-    end = put_decimal(nodes, out, end);
-    end = put(b" accepted ", out, end);
-    end = put_decimal(t.accepted, out, end);
-    end = put(b" sum ", out, end);
-    end = put_decimal(t.sum as u64, out, end);
-    put(b"\n", out, end)
 }

@@ -5,6 +5,4 @@ use Rattle.grammar.proofs.Answering.{query_checked}
 use Rattle.grammar.proofs.answers.check.Goals as goal
 
 pub returns : goal.returns
-returns c =
-    let file = c.args.file.now in
-    c.answer_of.ensures ∙ ap query_answer c.read.ensures.reading ∙ query_checked file
+returns c = c.from.ensures ∙ ap query_answer c.read.ensures.reading ∙ query_checked c.args.file.now

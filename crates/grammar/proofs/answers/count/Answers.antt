@@ -1,41 +1,44 @@
 -- `grammar::answers::count` meets its contract: N is the start rule's size by the table.
-use mathlib.Core.Path.{sym, ap, ◌∙◌}
+use mathlib.Core.Path.{◌≡◌, ap, ◌∙◌}
 use native.Mathlib.Omega.{arith}
+use lib.ListN.{take}
+use Rattle.std.specs.Prelude.{ℕ, ◌≤◌, Ok}
 use Rattle.model.specs.File.{read}
-use Rattle.grammar.specs.declared.rules.Reading.{Reading}
 use Rattle.grammar.specs.Meaning.{reading_is, answer_is, query_answer}
 use Rattle.grammar.specs.Measures.{Denotes}
 use Rattle.grammar.proofs.Answering.{query_checked, count_taken, count_refused}
-use Rattle.grammar.proofs.Promise.{denotes}
-use Rattle.grammar.proofs.Denoted.{nodes_counted}
-use Rattle.grammar.proofs.answers.count.Goals.{In-Taken}
+use Rattle.grammar.proofs.Promise.{denotes, count_bounds, nodes_read}
+use Rattle.grammar.proofs.answers.count.Goals.{After-read-r}
 use Rattle.grammar.proofs.answers.count.Goals as goal
 
--- a file that is taken denotes a grammar
-denoted : (c : In-Taken)
-    → Denotes c.args.file.now c.in-Taken.n c.read-r.new.table c.read-r.new.sizes
-denoted c =
-    denotes c.args.file.now c.in-Taken.n c.read-r.result _ c.read-r.new.table _ c.read-r.new.sizes c.in-Taken.is c.read-r.ensures (omega arith) (omega arith)
+-- a file that is taken denotes a grammar of so many rules, and N is theirs
+module _ (c : After-read-r) (n : ℕ) (e : c.read-r.result ≡ Ok n) where
+  denoted : Denotes c.args.file.now (take n c.read-r.new.table) c.read-r.new.sizes
+  denoted = denotes c.args.file.now n c.read-r.result _ c.read-r.new.table _ c.read-r.new.sizes e c.read-r.ensures (omega arith) (omega arith)
+
+  some_rule : (1 ≤ n) × (n ≤ 256)
+  some_rule = count_bounds c.args.file.now n c.read-r.result _ c.read-r.new.table _ c.read-r.new.sizes e c.read-r.ensures (omega arith) (omega arith)
 
 pub overflow_sub-n : goal.overflow_sub-n
-overflow_sub-n c =
-    omega (arith, (denoted (goal.at.overflow_sub-n c).In-Taken).some)
+overflow_sub-n c = (some_rule (goal.at.overflow_sub-n c).After-read-r c.in-Ok.n c.in-Ok.is).0
 
-pub first_gaps-requires : goal.first_gaps-requires
-first_gaps-requires c =
-    let d = denoted (goal.at.first_gaps-requires c).In-Taken in
-    (omega (arith, d.few, d.some, d.longer), omega arith, d.small)
+pub first_gaps-nodes-requires : goal.first_gaps-nodes-requires
+first_gaps-nodes-requires c =
+    let at = (goal.at.first_gaps-nodes-requires c).After-read-r in
+    let d = denoted at c.in-Ok.n c.in-Ok.is in
+    (omega (arith, some_rule at c.in-Ok.n c.in-Ok.is, d.longer), omega arith, d.small)
 
-pub returns-in-Taken : goal.returns-in-Taken
-returns-in-Taken c =
+pub returns-in-Ok : goal.returns-in-Ok
+unfolding denoted
+returns-in-Ok c =
     let file = c.args.file.now in
-    let d = denoted (goal.at.returns-in-Taken c).In-Taken in
-    count_taken (read file) d.rules (answer_is c.answer_of.result) c.first_gaps.result d.is
-    (c.answer_of.ensures ∙ ap (λ (x : Reading). query_answer (reading_is x)) (sym c.in-Taken.is) ∙ ap query_answer c.read-r.ensures.reading ∙ query_checked file)
-    (c.first_gaps.ensures.0 ∙ nodes_counted d)
+    let d = denoted (goal.at.returns-in-Ok c).After-read-r c.in-Ok.n c.in-Ok.is in
+    let n = nodes_read file c.in-Ok.n c.read-r.result _ c.read-r.new.table _ c.read-r.new.sizes c.in-Ok.is c.read-r.ensures (omega arith) (omega arith) in
+    count_taken (read file) d.rules (answer_is c.from-answer.result) c.first_gaps-nodes.result d.is
+    (c.from-answer.ensures ∙ ap query_answer c.read-r.ensures.reading ∙ query_checked file) (c.first_gaps-nodes.ensures.0 ∙ n)
 
-pub returns-in-Refused : goal.returns-in-Refused
-returns-in-Refused c =
+pub returns-in-Err : goal.returns-in-Err
+returns-in-Err c =
     let file = c.args.file.now in
-    count_refused (read file) (reading_is c.read-r.result) (answer_is c.answer_of-in-Refused.result) _ _ (ap reading_is c.in-Refused.is) c.read-r.ensures.reading
-    (c.answer_of-in-Refused.ensures ∙ ap query_answer c.read-r.ensures.reading ∙ query_checked file)
+    count_refused (read file) (reading_is c.read-r.result) (answer_is c.from-answer.result) _ _ (ap reading_is c.in-Err.is) c.read-r.ensures.reading
+    (c.from-answer.ensures ∙ ap query_answer c.read-r.ensures.reading ∙ query_checked file)

@@ -9,6 +9,6 @@ use Rattle.grammar.proofs.sizes.own.Goals as goal
 
 pub first_gaps-requires : goal.first_gaps-requires
 first_gaps-requires c =
-    let e : class_of c.args.w ≡ call c.in-Call.j = sym c.sort.ensures ∙ ap class_is c.in-Call.is in
+    let e : class_of c.args.w ≡ call c.in-Call.j = sym c.from.ensures ∙ ap class_is c.in-Call.is in
     let h : c.in-Call.j < 256 = (call_word_lem c.args.w c.in-Call.j e).1 in
     (omega arith, omega arith, c.requires.2)

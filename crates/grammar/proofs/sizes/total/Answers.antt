@@ -5,14 +5,10 @@ use Rattle.grammar.proofs.Measuring.{sum_none, sum_left}
 use Rattle.grammar.proofs.sizes.total.Goals as goal
 
 pub loop-i-init : goal.loop-i-init
-loop-i-init c =
-    (omega arith, sum_none c.args.file.now c.args.at c.args.words c.requires.0 (own_by c.args.sizes.now 5), omega arith)
+loop-i-init c = (sum_none c.args.body.now (own_by c.args.sizes.now 5), omega arith)
 
 pub loop-i-preserved : goal.loop-i-preserved
 loop-i-preserved c =
-    let a = c.args in
     let l = c.loop-i in
-    let m =
-    sum_left a.file.now a.at a.words c.requires.0 l.i c.word_at.result (omega arith) (omega arith) c.word_at.ensures
-    (own_by a.sizes.now 5) l.sum l.invariant.1 in
-    (omega arith, omega arith, omega arith)
+    let m = sum_left c.args.body.now l.i c.word_at.result (omega arith) (omega arith) c.word_at.ensures (own_by c.args.sizes.now 5) l.sum l.invariant.0 in
+    (omega arith, omega arith)

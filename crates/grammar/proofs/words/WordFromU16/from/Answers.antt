@@ -1,9 +1,9 @@
--- `grammar::words::sort` meets its contract: each arm's bounds are those of the law for its row.
+-- `Word::from` meets its contract: each arm's bounds are those of the law for its row.
 use mathlib.Core.Path.{sym, ap}
 use native.Mathlib.Omega.{arith}
 use Rattle.model.specs.Words.{class_of}
 use Rattle.grammar.proofs.Classes.{class_label, class_illegal_1, class_parameter, class_illegal_2, class_call, class_illegal_3}
-use Rattle.grammar.proofs.words.sort.Goals as goal
+use Rattle.grammar.proofs.words.WordFromU16.from.Goals as goal
 
 pub returns-in-0 : goal.returns-in-0
 unfolding class_of
