@@ -1,41 +1,35 @@
 -- The words of a body that are open, and what they give until the next tree is due.
-use Prim.Native.Nat.{ℕ, zero, suc, ◌+◌, ◌*◌, ◌-◌, ◌/◌, ◌%◌, ◌≤◌, ◌<◌}
+use Prim.Native.Nat.{ℕ, zero, suc, ◌+◌, ◌*◌, ◌-◌, ◌≤◌, ◌<◌}
 use native.Mathlib.Omega.{arith}
 use mathlib.Core.Logic.{◌⊎◌, inl, inr}
 use mathlib.Core.Path.{◌≡◌, refl, sym, ap, ap₂, subst, ◌∙◌}
-use mathlib.Core.Bool.{Bool, true, false, cond}
-use mathlib.Core.List.{List, [], ◌∷◌, ◌++◌, append_assoc}
-use lib.Dec.{leb, eqb}
-use lib.ListN.{length, take, drop, get_or, set, length-set}
-use lib.Seq.{get_or-set_same, get_or-set_other}
-use borrow.Author.Tests.{leb-true, leb-false, eqb-true, eqb-false, lt-leb, le-leb}
-use Rattle.queries.specs.Pieces.{stop, Part, Spelled, code_for, after, filling, closing, Entry, Entries, wanted, all_wanted, Closes, Closable, between, put_in, put_top}
-use Rattle.queries.proofs.Spelling.{Agree, PieceFor, piece_for, part_nil, part_join, part_agree, part_put, code_none, put_agree, length_put, spelled_agree}
+use mathlib.Core.Bool.{Bool, true, false}
+use mathlib.Core.List.{List, [], ◌∷◌, ◌++◌, append_assoc, append-nil}
+use lib.Dec.{leb}
+use lib.ListN.{length, take, drop, get_or, length-append}
+use borrow.Author.Tests.{leb-true, leb-false, lt-leb, le-leb}
+use Rattle.std.specs.Prelude.{Option, Some, None, option_to_list, IfNone, IsSome, is_some}
+use Rattle.std.proofs.lemmas.List.Elements.{All-append, All-cons, All-nil, All-pop}
+use Rattle.std.proofs.lemmas.List.Sums.{sum_by-append, sum_by-cons}
+use Rattle.model.specs.Trees.{join}
+use Rattle.queries.specs.declared.pieces.Open.{Open}
+use Rattle.queries.specs.Pieces.{Part, Spelled, code_for, after, filling, due, next_gap, closing_over, closing, Entry, Entries, wanted, all_wanted, Closes, Closable, between}
+use Rattle.queries.proofs.Spelling.{PieceFor, piece_for, part_nil, part_join, part_agree, part_put, code_none, append_agree, length_put, spelled_agree}
 
 pub after_ext : (f f' : List (List ℕ) → List ℕ) → ((ts : List (List ℕ)) → f' ts ≡ f ts) → (ts : List (List ℕ)) → after f' ts ≡ after f ts
 after_ext f f' e [] = refl
 after_ext f f' e (t ∷ ts) = ap (λ l. t ++ l) (e ts)
 
-pub filling_ext : (G : ℕ → List ℕ) (g n : ℕ) (f f' : List (List ℕ) → List ℕ) → ((ts : List (List ℕ)) → f' ts ≡ f ts) → (ts : List (List ℕ)) → filling G g n f' ts ≡ filling G g n f ts
-filling_ext G g zero f f' e ts = e ts
-filling_ext G g (suc zero) f f' e ts = ap (λ l. G g ++ l) (e ts)
-filling_ext G g (suc (suc n)) f f' e ts =
-    ap (λ l. G g ++ l) (after_ext (filling G (suc g) (suc n) f) (filling G (suc g) (suc n) f') (filling_ext G (suc g) (suc n) f f' e) ts)
-
-pub closing_agree : (G : ℕ → List ℕ) (O O' : List ℕ) (d : ℕ) → Agree d O' O → (ts : List (List ℕ)) → closing G O' d ts ≡ closing G O d ts
-closing_agree G O O' zero a ts = refl
-closing_agree G O O' (suc d) a ts =
-    ap (λ e. filling G (e % 2048) (e / 2048) (closing G O' d) ts) (a d (omega arith))
-    ∙ filling_ext G (get_or O d 0 % 2048) (get_or O d 0 / 2048) (closing G O d) (closing G O' d) (closing_agree G O O' d (λ j h. a j (omega arith))) ts
-
-pub wanted_agree : (O O' : List ℕ) (d : ℕ) → Agree d O' O → all_wanted O' d ≡ all_wanted O d
-wanted_agree O O' zero a = refl
-wanted_agree O O' (suc d) a = ap₂ (λ e s. wanted e + s) (a d (omega arith)) (wanted_agree O O' d (λ j h. a j (omega arith)))
+-- one more word is open
+pub closing_put : (G : ℕ → List ℕ) (f : List (List ℕ) → List ℕ) (O : List Open) (e : Open) (ts : List (List ℕ))
+    → closing_over G f (O ++ e ∷ []) ts ≡ filling G (next_gap e) (due e) (closing_over G f O) ts
+closing_put G f [] e ts = refl
+closing_put G f (o ∷ O) e ts = closing_put G (filling G (next_gap o) (due o) f) O e ts
 
 -- with nothing open, trees follow one after the other
-pub closing_none : (G : ℕ → List ℕ) (O : List ℕ) (ts : List (List ℕ)) → closing G O 0 ts ≡ after (closing G O 0) ts
-closing_none G O [] = refl
-closing_none G O (t ∷ ts) = refl
+pub closing_none : (G : ℕ → List ℕ) (ts : List (List ℕ)) → closing G [] ts ≡ after (closing G []) ts
+closing_none G [] = refl
+closing_none G (t ∷ ts) = refl
 
 -- a word with its gaps and the trees that follow
 pub between_filling : (G : ℕ → List ℕ) (g k : ℕ) (f : List (List ℕ) → List ℕ) (ts : List (List ℕ)) → k ≤ length ts
@@ -47,80 +41,80 @@ between_filling G g (suc k) f (t ∷ ts) h =
     e ∙ ap (λ l. G g ++ (t ++ l)) (between_filling G (suc g) k f ts (omega arith))
 
 -- the last gap of the lowest open word, and one before the last
-pub closing_last : (G : ℕ → List ℕ) (O : List ℕ) (d : ℕ) → get_or O d 0 / 2048 ≡ 1 → (ts : List (List ℕ)) → closing G O (suc d) ts ≡ G (get_or O d 0 % 2048) ++ closing G O d ts
-closing_last G O d e ts = ap (λ n. filling G (get_or O d 0 % 2048) n (closing G O d) ts) e
+pub closing_last : (G : ℕ → List ℕ) (O : List Open) (e : Open) → due e ≡ 1 → (ts : List (List ℕ)) → closing G (O ++ e ∷ []) ts ≡ G (next_gap e) ++ closing G O ts
+closing_last G O e h ts = closing_put G join O e ts ∙ ap (λ n. filling G (next_gap e) n (closing G O) ts) h
 
-pub closing_next : (G : ℕ → List ℕ) (O O' : List ℕ) (d m : ℕ) → get_or O d 0 / 2048 ≡ suc (suc m) → get_or O' d 0 % 2048 ≡ suc (get_or O d 0 % 2048) → get_or O' d 0 / 2048 ≡ suc m → Agree d O' O
-    → (ts : List (List ℕ)) → closing G O (suc d) ts ≡ G (get_or O d 0 % 2048) ++ after (closing G O' (suc d)) ts
-closing_next G O O' d m e f h a ts =
-    ap (λ n. filling G (get_or O d 0 % 2048) n (closing G O d) ts) e
-    ∙ ap (λ l. G (get_or O d 0 % 2048) ++ l) (after_ext (closing G O' (suc d)) (filling G (suc (get_or O d 0 % 2048)) (suc m) (closing G O d)) (λ ts. sym
-    (ap₂ (λ g n. filling G g n (closing G O' d) ts) f h
-    ∙ filling_ext G (suc (get_or O d 0 % 2048)) (suc m) (closing G O d) (closing G O' d) (closing_agree G O O' d a) ts)) ts)
+pub closing_next : (G : ℕ → List ℕ) (O : List Open) (e e' : Open) (m : ℕ) → due e ≡ suc (suc m) → next_gap e' ≡ suc (next_gap e) → due e' ≡ suc m
+    → (ts : List (List ℕ)) → closing G (O ++ e ∷ []) ts ≡ G (next_gap e) ++ after (closing G (O ++ e' ∷ [])) ts
+closing_next G O e e' m h f n ts =
+    closing_put G join O e ts ∙ ap (λ n. filling G (next_gap e) n (closing G O) ts) h
+    ∙ ap (λ l. G (next_gap e) ++ l) (after_ext (closing G (O ++ e' ∷ [])) (filling G (suc (next_gap e)) (suc m) (closing G O))
+    (λ ts. sym (closing_put G join O e' ts ∙ ap₂ (λ g n. filling G g n (closing G O) ts) f n)) ts)
 
-put_top_lem : (top c : ℕ) → put_top top c ≤ top + 1
-put_top_lem top c = go (eqb c stop)
+pub wanted_put : (O : List Open) (e : Open) → all_wanted (O ++ e ∷ []) ≡ all_wanted O + wanted e
+wanted_put O e = omega (arith, sum_by-append wanted O (e ∷ []), sum_by-cons wanted e [])
+
+pub length_open : (O : List Open) (e : Open) → length (O ++ e ∷ []) ≡ suc (length O)
+length_open O e = omega (arith, length-append O (e ∷ []))
+
+pub entries_put : (r : ℕ) (O : List Open) (e : Open) → Entries r O → Entry r e → Entries r (O ++ e ∷ [])
+entries_put r O e a x = All-append (Entry r) O (e ∷ []) a (All-cons (Entry r) e [] x (All-nil (Entry r)))
+
+pub entries_pop : (r : ℕ) (O : List Open) (e : Open) → Entries r (O ++ e ∷ []) → Entries r O × Entry r e
+entries_pop r O e a = All-pop (Entry r) (O ++ e ∷ []) O (Some e) refl a
+
+-- a piece, if there is one, takes at most one place, and the room that was kept for it
+put_short : (P : List ℕ) (o : Option ℕ) → length (P ++ option_to_list o) ≤ length P + 1
+put_short P None = omega (arith, length-append P [])
+put_short P (Some c) = omega (arith, length_put P c)
+
+pub put_grows : (P : List ℕ) (o : Option ℕ) → length P ≤ length (P ++ option_to_list o)
+put_grows P o = omega (arith, length-append P (option_to_list o))
+
+wanted_some : (e : Open) → next_gap e < 1280 → wanted e ≡ due e
+wanted_some e h = rw (lt-leb 1280 (next_gap e) h)
+
+wanted_none : (e : Open) → 1280 ≤ next_gap e → wanted e ≡ 0
+wanted_none e h = rw (le-leb 1280 (next_gap e) h)
+
+put_room : (sizes S P : List ℕ) (e : Open) → 1 ≤ due e → length (P ++ option_to_list (code_for sizes S P (next_gap e))) ≤ length P + wanted e
+put_room sizes S P e h = go (leb 1280 (next_gap e)) refl
   where
-    go : (b : Bool) → cond b top (top + 1) ≤ top + 1
-    go true = omega arith
-    go false = omega arith
-
-wanted_some : (e : ℕ) → e % 2048 < 1280 → wanted e ≡ e / 2048
-wanted_some e h = rw (lt-leb 1280 (e % 2048) h)
-
-wanted_none : (e : ℕ) → 1280 ≤ e % 2048 → wanted e ≡ 0
-wanted_none e h = rw (le-leb 1280 (e % 2048) h)
-
--- a piece takes the room that was kept for it
-put_room : (sizes S P : List ℕ) (top e : ℕ) → 1 ≤ e / 2048 → put_top top (code_for sizes S P (e % 2048)) ≤ top + wanted e
-put_room sizes S P top e h = go (leb 1280 (e % 2048)) refl
-  where
-    go : (b : Bool) → leb 1280 (e % 2048) ≡ b → put_top top (code_for sizes S P (e % 2048)) ≤ top + wanted e
+    go : (b : Bool) → leb 1280 (next_gap e) ≡ b → length (P ++ option_to_list (code_for sizes S P (next_gap e))) ≤ length P + wanted e
     go true q =
-        let z : put_top top (code_for sizes S P (e % 2048)) ≡ top = rw (code_none sizes S P (e % 2048) (leb-true 1280 (e % 2048) q)) in
+        let z : length (P ++ option_to_list (code_for sizes S P (next_gap e))) ≡ length P = rw (code_none sizes S P (next_gap e) (leb-true 1280 (next_gap e) q), append-nil P) in
         omega arith
-    go false q = omega (arith, put_top_lem top (code_for sizes S P (e % 2048)), wanted_some e (leb-false 1280 (e % 2048) q))
+    go false q = omega (arith, put_short P (code_for sizes S P (next_gap e)), wanted_some e (leb-false 1280 (next_gap e) q))
 
-put_room_next : (sizes S P : List ℕ) (top e e' : ℕ) → e' % 2048 ≡ suc (e % 2048) → suc (e' / 2048) ≡ e / 2048
-    → put_top top (code_for sizes S P (e % 2048)) + wanted e' ≤ top + wanted e
-put_room_next sizes S P top e e' f h = go (leb 1280 (e % 2048)) refl (leb 1280 (e' % 2048)) refl
+put_room_next : (sizes S P : List ℕ) (e e' : Open) → next_gap e' ≡ suc (next_gap e) → suc (due e') ≡ due e
+    → length (P ++ option_to_list (code_for sizes S P (next_gap e))) + wanted e' ≤ length P + wanted e
+put_room_next sizes S P e e' f h = go (leb 1280 (next_gap e)) refl (leb 1280 (next_gap e')) refl
   where
-    go : (b : Bool) → leb 1280 (e % 2048) ≡ b → (b' : Bool) → leb 1280 (e' % 2048) ≡ b' → put_top top (code_for sizes S P (e % 2048)) + wanted e' ≤ top + wanted e
+    go : (b : Bool) → leb 1280 (next_gap e) ≡ b → (b' : Bool) → leb 1280 (next_gap e') ≡ b' → length (P ++ option_to_list (code_for sizes S P (next_gap e))) + wanted e' ≤ length P + wanted e
     go true q b' q' =
-        let k = leb-true 1280 (e % 2048) q in
-        let z : put_top top (code_for sizes S P (e % 2048)) ≡ top = rw (code_none sizes S P (e % 2048) k) in
+        let k = leb-true 1280 (next_gap e) q in
+        let z : length (P ++ option_to_list (code_for sizes S P (next_gap e))) ≡ length P = rw (code_none sizes S P (next_gap e) k, append-nil P) in
         omega (arith, wanted_none e' (omega arith))
-    go false q true q' = omega (arith, put_top_lem top (code_for sizes S P (e % 2048)), wanted_some e (leb-false 1280 (e % 2048) q), wanted_none e' (leb-true 1280 (e' % 2048) q'))
-    go false q false q' = omega (arith, put_top_lem top (code_for sizes S P (e % 2048)), wanted_some e (leb-false 1280 (e % 2048) q), wanted_some e' (leb-false 1280 (e' % 2048) q'))
-
-put_grows : (top c : ℕ) → top ≤ put_top top c
-put_grows top c = go (eqb c stop)
-  where
-    go : (b : Bool) → top ≤ cond b top (top + 1)
-    go true = omega arith
-    go false = omega arith
+    go false q true q' = omega (arith, put_short P (code_for sizes S P (next_gap e)), wanted_some e (leb-false 1280 (next_gap e) q), wanted_none e' (leb-true 1280 (next_gap e') q'))
+    go false q false q' = omega (arith, put_short P (code_for sizes S P (next_gap e)), wanted_some e (leb-false 1280 (next_gap e) q), wanted_some e' (leb-false 1280 (next_gap e') q'))
 
 abbrev pub Now : (List (List ℕ) → List ℕ) → List (List ℕ) → List ℕ
 Now f ts = f ts
 
-pub closes_start : (S sizes P O : List ℕ) (top depth : ℕ) → Closes Now S sizes P O top depth P O top depth
-closes_start S sizes P O top depth =
+pub closes_start : (S sizes P : List ℕ) (O : List Open) → Closes Now S sizes P O P O
+closes_start S sizes P O =
     record {
-      length_pieces = refl;
-      length_opens = refl;
       kept = λ j h. refl;
       grown = omega arith;
       lower = omega arith;
       room = omega arith;
       entries = λ r e. e;
-      says = λ G r base x small h e. ([], part_nil G P r top, λ ts. refl);
+      says = λ G r base x small h e. ([], part_nil G P r (length P), λ ts. refl);
     }
 
-pub closes_end : {S sizes P₀ O₀ P O : List ℕ} {top₀ depth₀ top : ℕ} → Closes Now S sizes P₀ O₀ top₀ depth₀ P O top 0 → Closes after S sizes P₀ O₀ top₀ depth₀ P O top 0
-closes_end {O = O} x =
+pub closes_end : {S sizes P₀ P : List ℕ} {O₀ : List Open} → Closes Now S sizes P₀ O₀ P [] → Closes after S sizes P₀ O₀ P []
+closes_end x =
     record {
-      length_pieces = x.length_pieces;
-      length_opens = x.length_opens;
       kept = x.kept;
       grown = x.grown;
       lower = x.lower;
@@ -128,161 +122,144 @@ closes_end {O = O} x =
       entries = x.entries;
       says = λ G r base s small h e.
           let y = x.says G r base s small h e in
-          (y.0, y.1, λ ts. y.2 ts ∙ ap (λ l. y.0 ++ l) (closing_none G O ts));
+          (y.0, y.1, λ ts. y.2 ts ∙ ap (λ l. y.0 ++ l) (closing_none G ts));
     }
 
-pub closes_over : {S sizes P₀ O₀ P O : List ℕ} {top₀ depth₀ top d : ℕ} → d ≤ 0 → Closes Now S sizes P₀ O₀ top₀ depth₀ P O top d → Closes after S sizes P₀ O₀ top₀ depth₀ P O top d
-closes_over {S} {sizes} {P₀} {O₀} {P} {O} {top₀} {depth₀} {top} {d} h x =
-    let e : d ≡ 0 = omega arith in
-    subst (λ (k : ℕ). Closes after S sizes P₀ O₀ top₀ depth₀ P O top k) (sym e) (closes_end (subst (λ (k : ℕ). Closes Now S sizes P₀ O₀ top₀ depth₀ P O top k) e x))
-
-entry_gap : (r e : ℕ) → Entry r e → (e % 2048 < 5 * r) ⊎ (1280 ≤ e % 2048)
+pub entry_gap : (r : ℕ) (e : Open) → Entry r e → (next_gap e < 5 * r) ⊎ (1280 ≤ next_gap e)
 entry_gap r e x = go x.1
   where
-    go : ((e % 2048 + e / 2048 ≤ 5 * r) ⊎ ((1280 ≤ e % 2048) × (e % 2048 + e / 2048 ≤ 1283))) → (e % 2048 < 5 * r) ⊎ (1280 ≤ e % 2048)
+    go : ((next_gap e + due e ≤ 5 * r) ⊎ ((1280 ≤ next_gap e) × (next_gap e + due e ≤ 1283))) → (next_gap e < 5 * r) ⊎ (1280 ≤ next_gap e)
     go (inl h) = inl (let k = x.0 in omega arith)
     go (inr h) = inr h.0
 
-pub entry_next : (r e e' : ℕ) → Entry r e → e' % 2048 ≡ suc (e % 2048) → suc (e' / 2048) ≡ e / 2048 → 1 ≤ e' / 2048 → Entry r e'
+pub entry_small : (r : ℕ) (e : Open) → r ≤ 256 → Entry r e → next_gap e < 2047
+entry_small r e l x = go x.1
+  where
+    go : ((next_gap e + due e ≤ 5 * r) ⊎ ((1280 ≤ next_gap e) × (next_gap e + due e ≤ 1283))) → next_gap e < 2047
+    go (inl h) = omega arith
+    go (inr h) = omega (arith, h.1)
+
+pub entry_next : (r : ℕ) (e e' : Open) → Entry r e → next_gap e' ≡ suc (next_gap e) → suc (due e') ≡ due e → 1 ≤ due e' → Entry r e'
 entry_next r e e' x f h k = (k, go x.1)
   where
-    go : ((e % 2048 + e / 2048 ≤ 5 * r) ⊎ ((1280 ≤ e % 2048) × (e % 2048 + e / 2048 ≤ 1283)))
-        → (e' % 2048 + e' / 2048 ≤ 5 * r) ⊎ ((1280 ≤ e' % 2048) × (e' % 2048 + e' / 2048 ≤ 1283))
+    go : ((next_gap e + due e ≤ 5 * r) ⊎ ((1280 ≤ next_gap e) × (next_gap e + due e ≤ 1283)))
+        → (next_gap e' + due e' ≤ 5 * r) ⊎ ((1280 ≤ next_gap e') × (next_gap e' + due e' ≤ 1283))
     go (inl l) = inl (omega arith)
     go (inr l) = inr (omega arith, omega arith)
 
--- the lowest open word changed
-pub entries_set : (r d : ℕ) (O O' : List ℕ) → Agree d O' O → ((j : ℕ) → j < d → Entry r (get_or O j 0)) → Entry r (get_or O' d 0) → Entries r O' (suc d)
-entries_set r d O O' a e x j h = go (eqb j d) refl
-  where
-    go : (b : Bool) → eqb j d ≡ b → Entry r (get_or O' j 0)
-    go true q = subst (λ i. Entry r (get_or O' i 0)) (sym (eqb-true j d q)) x
-    go false q =
-        let n : j ≡ d → ⊥ = eqb-false j d q in
-        let l : j < d = omega arith in
-        subst (Entry r) (sym (a j l)) (e j l)
-
--- the numbers of an open word with one gap less due
-pub next_entry : (e : ℕ) → Entry 256 e → 4096 ≤ e → ((e - 2047) % 2048 ≡ suc (e % 2048)) × (suc ((e - 2047) / 2048) ≡ e / 2048) × (1 ≤ (e - 2047) / 2048)
-next_entry e x h = go x.1
-  where
-    go : ((e % 2048 + e / 2048 ≤ 5 * 256) ⊎ ((1280 ≤ e % 2048) × (e % 2048 + e / 2048 ≤ 1283)))
-        → ((e - 2047) % 2048 ≡ suc (e % 2048)) × (suc ((e - 2047) / 2048) ≡ e / 2048) × (1 ≤ (e - 2047) / 2048)
-    go (inl k) = (omega arith, omega arith, omega arith)
-    go (inr k) = (omega arith, omega arith, omega arith)
-
-module _ {S sizes P₀ O₀ P O : List ℕ} {top₀ depth₀ top d : ℕ} (x : Closes Now S sizes P₀ O₀ top₀ depth₀ P O top (suc d))
-    (fits : (code_for sizes S P (get_or O d 0 % 2048) ≡ stop → ⊥) → top < length P) (some : 1 ≤ get_or O d 0 / 2048) where
-  -- what is put for the next gap of the lowest open word
-  put_says : (G : ℕ → List ℕ) (r base : ℕ) → Spelled G r base P₀ S sizes → r ≤ 256 → base ≤ top₀ → Entries r O₀ depth₀
-      → (us : List ℕ) × Part G (put_in P top (code_for sizes S P (get_or O d 0 % 2048))) r top₀ (put_top top (code_for sizes S P (get_or O d 0 % 2048))) (us ++ G (get_or O d 0 % 2048))
-      × ((ts : List (List ℕ)) → closing G O₀ depth₀ ts ≡ us ++ closing G O (suc d) ts)
-  put_says G r base s small h e =
-      let y = x.says G r base s small h e in
-      let s' : Spelled G r base P S sizes = spelled_agree P S base (omega arith) (λ j k. x.kept j (omega arith)) (λ g k. refl) s in
-      let c = code_for sizes S P (get_or O d 0 % 2048) in
-      let q : PieceFor G r (get_or O d 0 % 2048) c = piece_for s' small (get_or O d 0 % 2048) (entry_gap r (get_or O d 0) (x.entries r e d (omega arith))) in
-      (y.0, part_join (part_agree (put_in P top c) (put_agree P top c) y.1) (part_put P top small fits q), y.2)
-
-  kept_put : (j : ℕ) → j < top₀ → get_or (put_in P top (code_for sizes S P (get_or O d 0 % 2048))) j 0 ≡ get_or P₀ j 0
-  kept_put j h = let k = x.grown in put_agree P top (code_for sizes S P (get_or O d 0 % 2048)) j (omega arith) ∙ x.kept j h
-
-  pub closes_last : get_or O d 0 / 2048 ≡ 1
-      → Closes Now S sizes P₀ O₀ top₀ depth₀ (put_in P top (code_for sizes S P (get_or O d 0 % 2048))) O (put_top top (code_for sizes S P (get_or O d 0 % 2048))) d
-  closes_last last =
-      let c = code_for sizes S P (get_or O d 0 % 2048) in
-      let l = x.lower in
+-- one turn of closing: of the open words the lowest was taken, e, and O are the others
+module _ {S sizes P₀ P : List ℕ} {O₀ : List Open} (O : List Open) (e : Open) (x : Closes Now S sizes P₀ O₀ P (O ++ e ∷ [])) (some : 1 ≤ due e) where
+  -- what is put for its next gap
+  put_says : (G : ℕ → List ℕ) (r base : ℕ) → Spelled G r base P₀ S sizes → r ≤ 256 → base ≤ length P₀ → Entries r O₀
+      → (us : List ℕ) × Part G (P ++ option_to_list (code_for sizes S P (next_gap e))) r (length P₀) (length (P ++ option_to_list (code_for sizes S P (next_gap e)))) (us ++ G (next_gap e)) × ((ts : List (List ℕ)) → closing G O₀ ts ≡ us ++ closing G (O ++ e ∷ []) ts)
+  put_says G r base s small h a =
+      let y = x.says G r base s small h a in
       let g = x.grown in
-      let m = x.room in
+      let s' : Spelled G r base P S sizes = spelled_agree P S base (omega arith) (λ j k. x.kept j (omega arith)) (λ g k. refl) s in
+      let q : PieceFor G r (next_gap e) (code_for sizes S P (next_gap e)) = piece_for s' small (next_gap e) (entry_gap r e (entries_pop r O e (x.entries r a)).1) in
+      (y.0, part_join (part_agree (P ++ option_to_list (code_for sizes S P (next_gap e))) (append_agree P (option_to_list (code_for sizes S P (next_gap e)))) y.1) (part_put P q), y.2)
+
+  kept_put : (j : ℕ) → j < length P₀ → get_or (P ++ option_to_list (code_for sizes S P (next_gap e))) j 0 ≡ get_or P₀ j 0
+  kept_put j h = let k = x.grown in append_agree P (option_to_list (code_for sizes S P (next_gap e))) j (omega arith) ∙ x.kept j h
+
+  grown_put : length P₀ ≤ length (P ++ option_to_list (code_for sizes S P (next_gap e)))
+  grown_put = omega (arith, x.grown, put_grows P (code_for sizes S P (next_gap e)))
+
+  -- it was its last
+  pub closes_last : due e ≡ 1 → Closes Now S sizes P₀ O₀ (P ++ option_to_list (code_for sizes S P (next_gap e))) O
+  closes_last last =
       record {
-        length_pieces = length_put P top c ∙ x.length_pieces;
-        length_opens = x.length_opens;
         kept = kept_put;
-        grown = omega (arith, put_grows top c);
-        lower = omega arith;
-        room = omega (arith, put_room sizes S P top (get_or O d 0) some);
-        entries = λ r e j h. x.entries r e j (omega arith);
-        says = λ G r base s small h e.
-            let y = put_says G r base s small h e in
-            (y.0 ++ G (get_or O d 0 % 2048), y.1, λ ts. y.2 ts ∙ ap (λ l. y.0 ++ l) (closing_last G O d last ts) ∙ sym (append_assoc y.0 (G (get_or O d 0 % 2048)) (closing G O d ts)));
+        grown = grown_put;
+        lower = omega (arith, x.lower, length_open O e);
+        room = omega (arith, x.room, wanted_put O e, put_room sizes S P e some);
+        entries = λ r a. (entries_pop r O e (x.entries r a)).0;
+        says = λ G r base s small h a.
+            let y = put_says G r base s small h a in
+            (y.0 ++ G (next_gap e), y.1, λ ts. y.2 ts ∙ ap (λ l. y.0 ++ l) (closing_last G O e last ts) ∙ sym (append_assoc y.0 (G (next_gap e)) (closing G O ts)));
       }
 
-  pub closes_next : (O' : List ℕ) → length O' ≡ length O → Agree d O' O → get_or O' d 0 % 2048 ≡ suc (get_or O d 0 % 2048) → suc (get_or O' d 0 / 2048) ≡ get_or O d 0 / 2048 → 1 ≤ get_or O' d 0 / 2048
-      → Closes after S sizes P₀ O₀ top₀ depth₀ (put_in P top (code_for sizes S P (get_or O d 0 % 2048))) O' (put_top top (code_for sizes S P (get_or O d 0 % 2048))) (suc d)
-  closes_next O' lo a f n m =
-      let c = code_for sizes S P (get_or O d 0 % 2048) in
-      let l = x.lower in
-      let g = x.grown in
-      let w = x.room in
-      let v : all_wanted O' d ≡ all_wanted O d = wanted_agree O O' d a in
+  -- it has another
+  pub closes_next : (e' : Open) → next_gap e' ≡ suc (next_gap e) → suc (due e') ≡ due e → 1 ≤ due e' → Closes after S sizes P₀ O₀ (P ++ option_to_list (code_for sizes S P (next_gap e))) (O ++ e' ∷ [])
+  closes_next e' f n m =
       record {
-        length_pieces = length_put P top c ∙ x.length_pieces;
-        length_opens = lo ∙ x.length_opens;
         kept = kept_put;
-        grown = omega (arith, put_grows top c);
-        lower = l;
-        room = omega (arith, put_room_next sizes S P top (get_or O d 0) (get_or O' d 0) f n);
-        entries = λ r e. entries_set r d O O' a (λ j h. x.entries r e j (omega arith)) (entry_next r (get_or O d 0) (get_or O' d 0) (x.entries r e d (omega arith)) f n m);
-        says = λ G r base s small h e.
-            let y = put_says G r base s small h e in (
-              y.0 ++ G (get_or O d 0 % 2048),
+        grown = grown_put;
+        lower = omega (arith, x.lower, length_open O e, length_open O e');
+        room = omega (arith, x.room, wanted_put O e, wanted_put O e', put_room_next sizes S P e e' f n);
+        entries = λ r a. let q = entries_pop r O e (x.entries r a) in entries_put r O e' q.0 (entry_next r e e' q.1 f n m);
+        says = λ G r base s small h a.
+            let y = put_says G r base s small h a in (
+              y.0 ++ G (next_gap e),
               y.1,
-              λ ts. y.2 ts ∙ ap (λ l. y.0 ++ l) (closing_next G O O' d (get_or O' d 0 / 2048 - 1) (omega arith) f (omega arith) a ts)
-                  ∙ sym (append_assoc y.0 (G (get_or O d 0 % 2048)) (after (closing G O' (suc d)) ts)),
+              λ ts. y.2 ts ∙ ap (λ l. y.0 ++ l) (closing_next G O e e' (due e' - 1) (omega arith) f (omega arith) ts)
+                  ∙ sym (append_assoc y.0 (G (next_gap e)) (after (closing G (O ++ e' ∷ [])) ts)),
             );
       }
 
--- one turn of closing
-module _ {S sizes P₀ O₀ P O : List ℕ} {top₀ depth₀ t d : ℕ} (C : Closable sizes S P₀ O₀ top₀ depth₀) (x : Closes Now S sizes P₀ O₀ top₀ depth₀ P O t d) (h : 0 < d) where
-  one_less : suc (d - 1) ≡ d
-  one_less = omega arith
+-- the open words once one was taken, if there was one: none where there was none
+pub all_taken : (O O' : List Open) (o : Option Open) → O ≡ O' ++ option_to_list o → (0 < length O → IsSome o) → IfNone o (O' ≡ [])
+all_taken O O' (Some e) was some = tt
+all_taken [] O' None was some = sym (was ∙ append-nil O')
+all_taken (e ∷ O) O' None was some = let f : false ≡ true = some (omega arith) in let z : ⊥ = cc in absurd z
 
-  down : Closes Now S sizes P₀ O₀ top₀ depth₀ P O t (suc (d - 1))
-  down = subst (λ (k : ℕ). Closes Now S sizes P₀ O₀ top₀ depth₀ P O t k) (sym one_less) x
+-- nothing is open any more
+pub turn_over : {S sizes P₀ P : List ℕ} {O₀ : List Open} (O : List Open) (o : Option Open) → o ≡ None → IfNone o (O ≡ []) → Closes Now S sizes P₀ O₀ P (O ++ option_to_list o) → Closes after S sizes P₀ O₀ P O
+turn_over {S} {sizes} {P₀} {P} {O₀} O o e open_none x =
+    let none : O ≡ [] = subst (λ (v : Option Open). IfNone v (O ≡ [])) e open_none in
+    let last : O ++ option_to_list o ≡ [] = ap (λ (v : Option Open). O ++ option_to_list v) e ∙ append-nil O ∙ none in
+    subst (λ (os : List Open). Closes after S sizes P₀ O₀ P os) (sym none) (closes_end (subst (λ (os : List Open). Closes Now S sizes P₀ O₀ P os) last x))
 
-  pub turn_there : d - 1 < length O
-  turn_there = omega (arith, x.lower, x.length_opens, C.deep)
+-- a turn in the values that the code has: what it asks, by what closing asks, and what it leaves
+module _ {S sizes P₀ P : List ℕ} {O₀ O₁ : List Open} (O : List Open) (e : Open) (C : Closable sizes S P₀ O₀) (x : Closes Now S sizes P₀ O₀ P O₁) (was : O₁ ≡ O ++ e ∷ []) where
+  taken : Closes Now S sizes P₀ O₀ P (O ++ e ∷ [])
+  taken = subst (λ (os : List Open). Closes Now S sizes P₀ O₀ P os) was x
 
-  pub turn_low : (g : ℕ) → get_or S g 0 + 1 < length P
-  turn_low g = omega (arith, C.low g, x.length_pieces)
+  turn_entry : Entry C.rules e
+  turn_entry = (entries_pop C.rules O e (taken.entries C.rules C.entries)).1
 
-  pub turn_entry : Entry 256 (get_or O (d - 1) 0)
-  turn_entry = x.entries 256 C.entries (d - 1) (omega arith)
-
-  turn_wanted : all_wanted O d ≡ wanted (get_or O (d - 1) 0) + all_wanted O (d - 1)
-  turn_wanted = ap (all_wanted O) (sym one_less)
-
-  pub turn_fits : (code_for sizes S P (get_or O (d - 1) 0 % 2048) ≡ stop → ⊥) → t < length P
-  turn_fits n = go (leb 1280 (get_or O (d - 1) 0 % 2048)) refl
+  turn_low : next_gap e < 1280 → 1 ≤ get_or sizes (next_gap e) 0 → get_or S (next_gap e) 0 + 1 < length P
+  turn_low h k = go (entry_gap C.rules e turn_entry)
     where
-      go : (b : Bool) → leb 1280 (get_or O (d - 1) 0 % 2048) ≡ b → t < length P
-      go true e = absurd (n (code_none sizes S P (get_or O (d - 1) 0 % 2048) (leb-true 1280 (get_or O (d - 1) 0 % 2048) e)))
-      go false e =
-          omega (arith, wanted_some (get_or O (d - 1) 0) (leb-false 1280 (get_or O (d - 1) 0 % 2048) e), turn_wanted, turn_entry.0, x.room, C.room, x.length_pieces)
+      go : (next_gap e < 5 * C.rules) ⊎ (1280 ≤ next_gap e) → get_or S (next_gap e) 0 + 1 < length P
+      go (inl l) = omega (arith, C.low (next_gap e) l k, x.grown)
+      go (inr l) = absurd (omega arith)
 
-  module _ (c t' : ℕ) (P' : List ℕ) (ce : c ≡ code_for sizes S P (get_or O (d - 1) 0 % 2048)) (te : t' ≡ put_top t c) (pe : P' ≡ put_in P t c) where
-    P_is : put_in P t (code_for sizes S P (get_or O (d - 1) 0 % 2048)) ≡ P'
-    P_is = ap (put_in P t) (sym ce) ∙ sym pe
+  pub turn_small : next_gap e < 2047
+  turn_small = entry_small C.rules e C.few turn_entry
 
-    t_is : put_top t (code_for sizes S P (get_or O (d - 1) 0 % 2048)) ≡ t'
-    t_is = ap (put_top t) (sym ce) ∙ sym te
+  module _ (S' sizes' : List ℕ) (starts_kept : S' ≡ S) (sizes_kept : sizes' ≡ sizes) where
+    pub turn_asks : (1280 ≤ length sizes') × (next_gap e < 1280 → 1 ≤ get_or sizes' (next_gap e) 0 → get_or S' (next_gap e) 0 + 1 < length P)
+    turn_asks = (
+      omega (arith, C.wide, ap length sizes_kept),
+      λ h k.
+          let s : get_or S' (next_gap e) 0 ≡ get_or S (next_gap e) 0 = ap (λ (l : List ℕ). get_or l (next_gap e) 0) starts_kept in
+          let z : get_or sizes' (next_gap e) 0 ≡ get_or sizes (next_gap e) 0 = ap (λ (l : List ℕ). get_or l (next_gap e) 0) sizes_kept in
+          omega (arith, turn_low h (omega arith)),
+    )
 
-    pub turn_length : length P' ≡ length P₀
-    turn_length = ap length pe ∙ length_put P t c ∙ x.length_pieces
+    module _ (o : Option ℕ) (is : o ≡ code_for sizes' S' P (next_gap e)) where
+      piece_is : code_for sizes S P (next_gap e) ≡ o
+      piece_is = ap₂ (λ (z s : List ℕ). code_for z s P (next_gap e)) (sym sizes_kept) (sym starts_kept) ∙ sym is
 
-    pub turn_again : get_or O (d - 1) 0 < 4096 → Closes Now S sizes P₀ O₀ top₀ depth₀ P' O t' (d - 1)
-    turn_again l =
-        subst (λ (p : List ℕ). Closes Now S sizes P₀ O₀ top₀ depth₀ p O t' (d - 1)) P_is
-        (subst (λ (k : ℕ). Closes Now S sizes P₀ O₀ top₀ depth₀ (put_in P t (code_for sizes S P (get_or O (d - 1) 0 % 2048))) O k (d - 1)) t_is
-        (closes_last down turn_fits turn_entry.0 (omega (arith, turn_entry.0))))
+      pub turn_room : IsSome o → length P < 16384
+      turn_room n = go (leb 1280 (next_gap e)) refl
+        where
+          go : (b : Bool) → leb 1280 (next_gap e) ≡ b → length P < 16384
+          go true q =
+              let f : false ≡ true = ap is_some (sym (code_none sizes S P (next_gap e) (leb-true 1280 (next_gap e) q)) ∙ piece_is) ∙ n in
+              absurd (let z : ⊥ = cc in z)
+          go false q = omega (arith, wanted_some e (leb-false 1280 (next_gap e) q), wanted_put O e, turn_entry.0, taken.room, C.room)
 
-    pub turn_ends : 4096 ≤ get_or O (d - 1) 0 → Closes after S sizes P₀ O₀ top₀ depth₀ P' (set O (d - 1) (get_or O (d - 1) 0 - 2047)) t' d
-    turn_ends l =
-        let O' = set O (d - 1) (get_or O (d - 1) 0 - 2047) in
-        let v : get_or O' (d - 1) 0 ≡ get_or O (d - 1) 0 - 2047 = get_or-set_same O (d - 1) (get_or O (d - 1) 0 - 2047) 0 turn_there in
-        let n = next_entry (get_or O (d - 1) 0) turn_entry l in
-        subst (λ (k : ℕ). Closes after S sizes P₀ O₀ top₀ depth₀ P' O' t' k) one_less
-        (subst (λ (p : List ℕ). Closes after S sizes P₀ O₀ top₀ depth₀ p O' t' (suc (d - 1))) P_is
-        (subst (λ (k : ℕ). Closes after S sizes P₀ O₀ top₀ depth₀ (put_in P t (code_for sizes S P (get_or O (d - 1) 0 % 2048))) O' k (suc (d - 1))) t_is
-        (closes_next down turn_fits turn_entry.0 O' (length-set O (d - 1) (get_or O (d - 1) 0 - 2047)) (λ j k. get_or-set_other O (d - 1) j (get_or O (d - 1) 0 - 2047) 0 (omega arith))
-        (ap (λ (e : ℕ). e % 2048) v ∙ n.0) (ap (λ (e : ℕ). suc (e / 2048)) v ∙ n.1) (omega (arith, ap (λ (e : ℕ). e / 2048) v, n.2)))))
+      module _ (P' : List ℕ) (put : P' ≡ P ++ option_to_list o) where
+        put_is : P ++ option_to_list (code_for sizes S P (next_gap e)) ≡ P'
+        put_is = ap (λ (v : Option ℕ). P ++ option_to_list v) piece_is ∙ sym put
+
+        pub turn_last : due e ≤ 1 → Closes Now S sizes P₀ O₀ P' O
+        turn_last l = subst (λ (p : List ℕ). Closes Now S sizes P₀ O₀ p O) put_is (closes_last O e taken turn_entry.0 (omega (arith, turn_entry.0)))
+
+        pub turn_next : (e' : Open) → next_gap e' ≡ suc (next_gap e) → suc (due e') ≡ due e → 1 ≤ due e' → (O' : List Open) → O' ≡ O ++ e' ∷ [] → Closes after S sizes P₀ O₀ P' O'
+        turn_next e' f n m O' o' =
+            subst (λ (p : List ℕ). Closes after S sizes P₀ O₀ p O') put_is
+            (subst (λ (os : List Open). Closes after S sizes P₀ O₀ (P ++ option_to_list (code_for sizes S P (next_gap e))) os) (sym o')
+            (closes_next O e taken turn_entry.0 e' f n m))

@@ -1,15 +1,14 @@
 -- The turns over a rule's body: what holds before each word, and how it holds again after it.
-use Prim.Native.Nat.{ℕ, suc, ◌+◌, ◌*◌, ◌/◌, ◌%◌, ◌≤◌, ◌<◌}
+use Prim.Native.Nat.{ℕ, suc, ◌+◌, ◌*◌, ◌/◌, ◌≤◌, ◌<◌}
 use native.Mathlib.Omega.{arith}
 use native.Mathlib.Nat.{add-zero}
-use native.Mathlib.Numerals.{add-one}
-use mathlib.Core.Logic.{◌⊎◌, inl, inr}
-use mathlib.Core.Path.{◌≡◌, refl, sym, ap, ap₂, subst, ◌∙◌}
+use mathlib.Core.Path.{◌≡◌, refl, sym, ap, subst, ◌∙◌}
 use mathlib.Core.Bool.{true}
-use mathlib.Core.List.{List, [], ◌∷◌}
+use mathlib.Core.List.{List, [], ◌∷◌, ◌++◌}
 use lib.Dec.{T}
 use lib.ListN.{length, drop, get_or, set, length-set, length-drop, drop_of_length-le}
 use lib.Seq.{get_or-set_same, get_or-set_other}
+use Rattle.std.proofs.lemmas.List.Elements.{All-nil}
 use Rattle.model.specs.Words.{Class, empty, label, parameter, call, illegal, class_of, rank_of, is_parameter}
 use Rattle.model.specs.Trees.{all, those, is_legal, fold, join}
 use Rattle.laws.specs.Formed.{Fits}
@@ -17,38 +16,43 @@ use Rattle.laws.specs.Sums.{sum_of}
 use Rattle.laws.proofs.Words.Lists.{all_cons}
 use Rattle.laws.proofs.Trees.Folds.{length_fold}
 use Rattle.laws.proofs.Trees.Fills.{those_in}
-use Rattle.queries.specs.Pieces.{stop, after, Spelled, Entry, Entries, wanted, all_wanted, Closes, Closable, over, first_gap, own_pieces, own_top, own_gap, own_starts, up_to, past_all}
-use Rattle.queries.proofs.Spelling.{Agree, spelled_agree}
-use Rattle.queries.proofs.Closing.{Now, wanted_agree, entries_set}
+use Rattle.queries.specs.declared.pieces.Open.{Open}
+use Rattle.queries.specs.Pieces.{stop, after, Slice, Spelled, due, next_gap, Entry, Entries, all_wanted, Closes, Closable, spelled, over, first_gap, own, own_gap, own_starts, up_to, past_all}
+use Rattle.queries.proofs.Spelling.{spelled_agree, append_agree, length_put}
+use Rattle.queries.proofs.Closing.{Now, wanted_put, length_open, entries_put}
 use Rattle.queries.proofs.RuleSpelled.{Spelling, spelling_start, own_step, close_step, spelling_end}
-use Rattle.queries.proofs.SpellTurns.{own_length, own_agree, starts_length, starts_agree, own_grown, starts_low_set, starts_low, own_gap_lem, gap_offset, first_small, first_entry, own_room}
+use Rattle.queries.proofs.SpellTurns.{starts_length, starts_agree, own_grown, starts_low_set, starts_low, own_gap_lem, gap_offset, first_small, first_entry, own_room}
 
--- before the word at i of a rule's body: t pieces, the gap whose pieces are put, and the words that are open
-pub record Turn (G : ℕ → List ℕ) (ranks X body : List ℕ) (r top₀ deepest : ℕ) (sizes P S O : List ℕ) (t gap depth i : ℕ) : Type 0 where
-  pub pieces_long : length P ≡ 16384
+-- before the word at i of a rule's body: the pieces, after top₀ of the rules below, the gap whose pieces are put, and the words that are open
+pub record Turn (G : ℕ → List ℕ) (ranks X body : List ℕ) (r top₀ : ℕ) (sizes P S : List ℕ) (O : List Open) (gap i : ℕ) : Type 0 where
   pub starts_long : length S ≡ 1280
-  pub opens_long : length O ≡ deepest
   pub m : ℕ
   pub gap_is : gap ≡ 5 * r + m
   pub few : m + length (those is_parameter (drop i body)) ≤ 4
   pub within : i ≤ length body
-  pub deep : depth ≤ i
-  pub entries : Entries r O depth
-  pub low : (g : ℕ) → get_or S g 0 ≤ t
-  pub grown : top₀ ≤ t
-  pub room : t + all_wanted O depth + sum_of (λ w. suc (rank_of ranks w)) (drop i body) < top₀ + 2 * length body
+  pub deep : length O ≤ i
+  pub entries : Entries r O
+  pub low : (g : ℕ) → get_or S g 0 ≤ length P
+  pub grown : top₀ ≤ length P
+  pub room : length P + all_wanted O + sum_of (λ w. suc (rank_of ranks w)) (drop i body) < top₀ + 2 * length body
   pub legal : T (all (is_legal r) (drop i body))
   pub fits : Fits (rank_of ranks) 0 (drop i body)
   pub lower : Spelled G r top₀ P S sizes
-  pub spelling : Spelling after G r X P S O m t depth (fold (rank_of ranks) (over G (rank_of ranks)) (drop i body) [])
+  pub spelling : Spelling after G r X P S O m (fold (rank_of ranks) (over G (rank_of ranks)) (drop i body) [])
 
--- words that name no rule over r
-entry_more : (r r' e : ℕ) → r ≤ r' → Entry r e → Entry r' e
-entry_more r r' e h x = (x.0, go x.1)
+-- the pieces of a gap that has words stand below the place `top`
+slice_low : {G : ℕ → List ℕ} {r top : ℕ} {P S sizes : List ℕ} → Spelled G r top P S sizes → (g : ℕ) → g < 5 * r → 1 ≤ get_or sizes g 0 → get_or S g 0 + 1 < top
+slice_low {G} {r} {top} {P} {S} {sizes} x g h k = go s s.part.codes s.part.ends s.part.means
   where
-    go : ((e % 2048 + e / 2048 ≤ 5 * r) ⊎ ((1280 ≤ e % 2048) × (e % 2048 + e / 2048 ≤ 1283))) → (e % 2048 + e / 2048 ≤ 5 * r') ⊎ ((1280 ≤ e % 2048) × (e % 2048 + e / 2048 ≤ 1283))
-    go (inl k) = inl (omega arith)
-    go (inr k) = inr k
+    some : 1 ≤ length (G g)
+    some = omega (arith, x.measured g h)
+
+    s : Slice G P (g / 5) (get_or S g 0) top (G g)
+    s = x.slices g h some
+
+    go : (y : Slice G P (g / 5) (get_or S g 0) top (G g)) → (cs : List ℕ) → get_or S g 0 + length cs ≡ y.end → spelled G cs ≡ G g → get_or S g 0 + 1 < top
+    go y [] e m = absurd (omega (arith, some, ap length m))
+    go y (c ∷ cs) e m = omega (arith, y.below)
 
 pub rank_four : (ranks : List ℕ) → ((j : ℕ) → get_or ranks j 0 ≤ 4) → (w : ℕ) → rank_of ranks w ≤ 4
 rank_four ranks small w = go (class_of w) refl
@@ -60,10 +64,10 @@ rank_four ranks small w = go (class_of w) refl
     go (call j) e = simp e (small j)
     go illegal e = simp e (omega arith)
 
-module _ {G : ℕ → List ℕ} {ranks X body : List ℕ} {r top₀ deepest : ℕ} {sizes : List ℕ}
-    (small : (j : ℕ) → get_or ranks j 0 ≤ 4) (low_rule : r < 256) (all_room : top₀ + 2 * length body + 18 ≤ 16384) (deep_enough : length body ≤ deepest)
+module _ {G : ℕ → List ℕ} {ranks X body : List ℕ} {r top₀ : ℕ} {sizes : List ℕ}
+    (small : (j : ℕ) → get_or ranks j 0 ≤ 4) (low_rule : r < 256) (all_room : top₀ + 2 * length body + 18 ≤ 16384)
     (gaps : (c : ℕ) → c < 5 → G (5 * r + c) ≡ up_to (past_all c X)) (wide : 1280 ≤ length sizes) where
-  module _ {P S O : List ℕ} {t gap depth i : ℕ} (x : Turn G ranks X body r top₀ deepest sizes P S O t gap depth i) (w : ℕ) (q : drop i body ≡ w ∷ drop (i + 1) body) where
+  module _ {P S : List ℕ} {O : List Open} {gap i : ℕ} (x : Turn G ranks X body r top₀ sizes P S O gap i) (w : ℕ) (q : drop i body ≡ w ∷ drop (i + 1) body) where
     abbrev rest : List ℕ
     rest = drop (i + 1) body
 
@@ -76,14 +80,14 @@ module _ {G : ℕ → List ℕ} {ranks X body : List ℕ} {r top₀ deepest : �
     fits_both : Fits (rank_of ranks) 0 (w ∷ rest)
     fits_both = subst (Fits (rank_of ranks) 0) q x.fits
 
-    room_here : t + all_wanted O depth + (suc (rank_of ranks w) + sum_of (λ w. suc (rank_of ranks w)) rest) < top₀ + 2 * length body
-    room_here = subst (λ (l : List ℕ). t + all_wanted O depth + sum_of (λ w. suc (rank_of ranks w)) l < top₀ + 2 * length body) q x.room
+    room_here : length P + all_wanted O + (suc (rank_of ranks w) + sum_of (λ w. suc (rank_of ranks w)) rest) < top₀ + 2 * length body
+    room_here = subst (λ (l : List ℕ). length P + all_wanted O + sum_of (λ w. suc (rank_of ranks w)) l < top₀ + 2 * length body) q x.room
 
     there : suc i ≤ length body
     there = omega (arith, ap length q, length-drop i body)
 
-    pub put_fits : t < length P
-    put_fits = omega (arith, room_here, all_room, x.pieces_long)
+    pub put_fits : length P < 16384
+    put_fits = omega (arith, room_here, all_room)
 
     few_here : x.m + length (those is_parameter (w ∷ rest)) ≤ 4
     few_here = subst (λ (l : List ℕ). x.m + length (those is_parameter l) ≤ 4) q x.few
@@ -91,134 +95,117 @@ module _ {G : ℕ → List ℕ} {ranks X body : List ℕ} {r top₀ deepest : �
     param_few : is_parameter w ≡ true → x.m < 4
     param_few e = omega (arith, few_here, ap length (those_in is_parameter w rest e))
 
-    pub start_fits : is_parameter w ≡ true → gap + 1 < length S
-    start_fits e = omega (arith, param_few e, x.gap_is, x.starts_long)
+    pub start_fits : (gap < 1280) × (own_gap w gap < 1280)
+    start_fits = (omega (arith, x.gap_is, x.few), omega (arith, ap (own_gap w) x.gap_is, gap_offset w (5 * r) x.m, own_gap_lem w x.m rest, few_here))
 
-    pub depth_fits : depth < length O
-    depth_fits = omega (arith, x.deep, there, x.opens_long, deep_enough)
+    pub open_fits : length O < 8192
+    open_fits = omega (arith, x.deep, there, all_room)
 
-    pub entry_fits : 2048 * (rank_of ranks w + 1) + first_gap w < 65536
-    entry_fits = omega (arith, rank_four ranks small w, first_small w r (omega arith) legal_both.0)
+    pub first_fits : first_gap w ≤ 1280
+    first_fits = first_small w r (omega arith) legal_both.0
 
-    own_t : (t ≤ own_top w t) × (own_top w t ≤ t + 1)
-    own_t = own_grown w t
+    own_P : (length P ≤ length (P ++ own w)) × (length (P ++ own w) ≤ length P + 1)
+    own_P = own_grown w P
 
-    module _ (e : ℕ) (ee : e ≡ 2048 * (rank_of ranks w + 1) + first_gap w) where
-      abbrev O₁ : List ℕ
-      O₁ = set O depth e
+    -- the word's own piece is put, and it is open
+    module _ (e : Open) (gap_e : next_gap e ≡ first_gap w) (due_e : due e ≡ suc (rank_of ranks w)) where
+      abbrev P₁ : List ℕ
+      P₁ = P ++ own w
 
-      there_e : get_or O₁ depth 0 ≡ e
-      there_e = get_or-set_same O depth e 0 depth_fits
+      abbrev S₁ : List ℕ
+      S₁ = own_starts w S gap (length P₁)
 
-      gap_e : e % 2048 ≡ first_gap w
-      gap_e = omega (arith, first_small w r (omega arith) legal_both.0)
+      abbrev O₁ : List Open
+      O₁ = O ++ e ∷ []
 
-      due_e : e / 2048 ≡ suc (rank_of ranks w)
-      due_e = omega (arith, first_small w r (omega arith) legal_both.0)
+      entries_O : Entries r O₁
+      entries_O = entries_put r O e x.entries (first_entry w ranks r e small (omega arith) legal_both.0 gap_e due_e)
 
-      agree_O : Agree depth O₁ O
-      agree_O j h = get_or-set_other O depth j e 0 (omega arith)
+      room_O : length P₁ + all_wanted O₁ ≤ length P + all_wanted O + suc (rank_of ranks w)
+      room_O = omega (arith, wanted_put O e, own_room w ranks r P e (omega arith) legal_both.0 gap_e due_e)
 
-      entries_O : Entries r O₁ (suc depth)
-      entries_O = entries_set r depth O O₁ agree_O x.entries (subst (Entry r) (sym there_e) (first_entry w ranks r e small (omega arith) legal_both.0 gap_e due_e))
+      lower₁ : Spelled G r top₀ P₁ S₁ sizes
+      lower₁ =
+          spelled_agree P₁ S₁ top₀ (omega arith) (λ j h. append_agree P (own w) j (omega (arith, x.grown)))
+          (λ g h. starts_agree w S gap (length P₁) g (omega (arith, x.gap_is))) x.lower
 
-      wanted_O : all_wanted O₁ (suc depth) ≡ wanted e + all_wanted O depth
-      wanted_O = ap₂ (λ (a b : ℕ). wanted a + b) there_e (wanted_agree O O₁ depth agree_O)
-
-      room_O : own_top w t + all_wanted O₁ (suc depth) ≤ t + all_wanted O depth + suc (rank_of ranks w)
-      room_O = omega (arith, wanted_O, own_room w ranks r t e (omega arith) legal_both.0 gap_e due_e)
-
-      pub closable : Closable sizes (own_starts w S gap t) (own_pieces w P t) O₁ (own_top w t) (depth + 1)
+      pub closable : Closable sizes S₁ P₁ O₁
       closable =
           record {
+            rules = r;
+            few = omega arith;
             wide = wide;
-            long = omega (arith, starts_length w S gap t, x.starts_long);
-            low = λ g. omega (arith, starts_low w S gap t x.low g, own_t, own_length w P t, x.pieces_long, room_here, all_room);
-            deep = omega (arith, depth_fits, length-set O depth e);
-            entries = λ j h. entry_more r 256 (get_or O₁ j 0) (omega arith) (entries_O j (omega arith));
-            room = omega (arith, ap (all_wanted O₁) (add-one depth), room_O, own_length w P t, x.pieces_long, room_here, all_room);
+            low = λ g h k. omega (arith, slice_low lower₁ g h k, x.grown, own_P);
+            deep = omega (arith, open_fits, length_open O e);
+            entries = entries_O;
+            room = omega (arith, room_O, room_here, all_room);
           }
 
-      lower₁ : Spelled G r top₀ (own_pieces w P t) (own_starts w S gap t) sizes
-      lower₁ =
-          spelled_agree (own_pieces w P t) (own_starts w S gap t) top₀ (omega arith) (λ j h. own_agree w P t j (omega (arith, x.grown)))
-          (λ g h. starts_agree w S gap t g (omega (arith, x.gap_is))) x.lower
-
-      spelling₁ : Spelling Now G r X (own_pieces w P t) (own_starts w S gap t) O₁ (own_gap w x.m) (own_top w t) (suc depth) F
+      spelling₁ : Spelling Now G r X P₁ S₁ O₁ (own_gap w x.m) F
       spelling₁ =
-          subst (λ (g : ℕ). Spelling Now G r X (own_pieces w P t) (own_starts w S g t) O₁ (own_gap w x.m) (own_top w t) (suc depth) F) (sym x.gap_is)
-          (own_step G r X gaps x.lower.plain (rank_of ranks) r w P S O O₁ x.m t depth F legal_both.0
-          (omega (arith, fits_both.0, length_fold (rank_of ranks) (over G (rank_of ranks)) rest [])) agree_O (ap (λ (v : ℕ). v % 2048) there_e ∙ gap_e)
-          (ap (λ (v : ℕ). v / 2048) there_e ∙ due_e) param_few (omega (arith, x.starts_long)) put_fits
-          (subst (λ (l : List ℕ). Spelling after G r X P S O x.m t depth (fold (rank_of ranks) (over G (rank_of ranks)) l [])) q x.spelling))
+          subst (λ (g : ℕ). Spelling Now G r X P₁ (own_starts w S g (length P₁)) O₁ (own_gap w x.m) F) (sym x.gap_is)
+          (own_step G r X gaps x.lower.plain (rank_of ranks) r w P S O e x.m F legal_both.0
+          (omega (arith, fits_both.0, length_fold (rank_of ranks) (over G (rank_of ranks)) rest [])) gap_e due_e param_few (omega (arith, x.starts_long))
+          (subst (λ (l : List ℕ). Spelling after G r X P S O x.m (fold (rank_of ranks) (over G (rank_of ranks)) l [])) q x.spelling))
 
-      pub turned : {P₂ O₂ : List ℕ} {t₂ d₂ : ℕ} → Closes after (own_starts w S gap t) sizes (own_pieces w P t) O₁ (own_top w t) (depth + 1) P₂ O₂ t₂ d₂
-          → Turn G ranks X body r top₀ deepest sizes P₂ (own_starts w S gap t) O₂ t₂ (own_gap w gap) d₂ (i + 1)
-      turned {P₂} {O₂} {t₂} {d₂} c =
-          let c' : Closes after (own_starts w S gap t) sizes (own_pieces w P t) O₁ (own_top w t) (suc depth) P₂ O₂ t₂ d₂ =
-          subst (λ (d : ℕ). Closes after (own_starts w S gap t) sizes (own_pieces w P t) O₁ (own_top w t) d P₂ O₂ t₂ d₂) (add-one depth) c in
+      pub turned : {P₂ : List ℕ} {O₂ : List Open} → Closes after S₁ sizes P₁ O₁ P₂ O₂ → Turn G ranks X body r top₀ sizes P₂ S₁ O₂ (own_gap w gap) (i + 1)
+      turned {P₂} {O₂} c =
           record {
-            pieces_long = c'.length_pieces ∙ own_length w P t ∙ x.pieces_long;
-            starts_long = starts_length w S gap t ∙ x.starts_long;
-            opens_long = c'.length_opens ∙ length-set O depth e ∙ x.opens_long;
+            starts_long = starts_length w S gap (length P₁) ∙ x.starts_long;
             m = own_gap w x.m;
             gap_is = ap (own_gap w) x.gap_is ∙ gap_offset w (5 * r) x.m;
             few = omega (arith, own_gap_lem w x.m rest, few_here);
             within = omega (arith, there);
-            deep = omega (arith, c'.lower, x.deep);
-            entries = c'.entries r entries_O;
-            low = λ g. omega (arith, starts_low w S gap t x.low g, c'.grown);
-            grown = omega (arith, x.grown, own_t, c'.grown);
-            room = omega (arith, c'.room, room_O, room_here);
+            deep = omega (arith, c.lower, x.deep, length_open O e);
+            entries = c.entries r entries_O;
+            low = λ g. omega (arith, starts_low w S gap (length P₁) (λ j. omega (arith, x.low j, own_P)) g, c.grown);
+            grown = omega (arith, x.grown, own_P, c.grown);
+            room = omega (arith, c.room, room_O, room_here);
             legal = legal_both.1;
             fits = fits_both.1;
-            lower = spelled_agree P₂ (own_starts w S gap t) top₀ (omega arith) (λ j h. c'.kept j (omega (arith, x.grown, own_t))) (λ g h. refl) lower₁;
-            spelling =
-                close_step G r X gaps x.lower.plain (own_pieces w P t) (own_starts w S gap t) O₁ P₂ O₂ sizes (own_gap w x.m) top₀ (own_top w t) (suc depth) t₂ d₂ F (omega arith)
-                (omega (arith, x.grown, own_t)) entries_O lower₁ c' spelling₁;
+            lower = spelled_agree P₂ S₁ top₀ (omega arith) (λ j h. c.kept j (omega (arith, x.grown, own_P))) (λ g h. refl) lower₁;
+            spelling = close_step G r X gaps x.lower.plain P₁ S₁ O₁ P₂ O₂ sizes (own_gap w x.m) top₀ F (omega arith) (omega (arith, x.grown, own_P)) entries_O lower₁ c spelling₁;
           }
 
   -- before the first word, where the rule's first gap starts
-  pub turn_start : (P S O : List ℕ) → length P ≡ 16384 → length S ≡ 1280 → length O ≡ deepest → ((g : ℕ) → get_or S g 0 ≤ top₀) → Spelled G r top₀ P S sizes
+  pub turn_start : (P S : List ℕ) → length P ≡ top₀ → length S ≡ 1280 → ((g : ℕ) → get_or S g 0 ≤ top₀) → Spelled G r top₀ P S sizes
       → length (those is_parameter body) ≤ 4 → T (all (is_legal r) body) → Fits (rank_of ranks) 0 body → sum_of (λ w. suc (rank_of ranks w)) body < 2 * length body
       → X ≡ join (fold (rank_of ranks) (over G (rank_of ranks)) body [])
-      → Turn G ranks X body r top₀ deepest sizes P (set S (5 * r) top₀) O top₀ (5 * r) 0 0
-  turn_start P S O lp ls lo low s p l f n e =
+      → Turn G ranks X body r top₀ sizes P (set S (5 * r) top₀) [] (5 * r) 0
+  turn_start P S lp ls low s p l f n e =
       record {
-        pieces_long = lp;
         starts_long = length-set S (5 * r) top₀ ∙ ls;
-        opens_long = lo;
         m = 0;
         gap_is = sym (add-zero (5 * r));
         few = omega arith;
         within = omega arith;
         deep = omega arith;
-        entries = λ j h. absurd (omega arith);
-        low = starts_low_set S (5 * r) top₀ low;
+        entries = All-nil (Entry r);
+        low = λ g. omega (arith, starts_low_set S (5 * r) top₀ low g);
         grown = omega arith;
         room = omega arith;
         legal = l;
         fits = f;
         lower = spelled_agree P (set S (5 * r) top₀) top₀ (omega arith) (λ j h. refl) (λ g h. get_or-set_other S (5 * r) g top₀ 0 (omega arith)) s;
-        spelling = spelling_start G r X P (set S (5 * r) top₀) O top₀ (fold (rank_of ranks) (over G (rank_of ranks)) body []) e (get_or-set_same S (5 * r) top₀ 0 (omega arith));
+        spelling = spelling_start G r X P (set S (5 * r) top₀) (fold (rank_of ranks) (over G (rank_of ranks)) body []) e (get_or-set_same S (5 * r) top₀ 0 (omega arith) ∙ sym lp);
       }
 
   -- after the last word
-  module _ {P S O : List ℕ} {t gap depth i : ℕ} (x : Turn G ranks X body r top₀ deepest sizes P S O t gap depth i) (over_all : length body ≤ i) where
+  module _ {P S : List ℕ} {O : List Open} {gap i : ℕ} (x : Turn G ranks X body r top₀ sizes P S O gap i) (over_all : length body ≤ i) where
     all_passed : drop i body ≡ []
     all_passed = drop_of_length-le body over_all
 
-    end_room : t + 1 ≤ top₀ + 2 * length body
+    end_room : length P + 1 ≤ top₀ + 2 * length body
     end_room = omega (arith, x.room)
 
-    pub end_fits : t < length P
-    end_fits = omega (arith, end_room, all_room, x.pieces_long)
+    pub end_fits : length P < 16384
+    end_fits = omega (arith, end_room, all_room)
 
     pub rule_done : ((c : ℕ) → c < 5 → get_or sizes (5 * r + c) 0 ≡ length (G (5 * r + c)))
-        → Spelled G (suc r) (t + 1) (set P t stop) S sizes × ((g : ℕ) → get_or S g 0 ≤ t + 1) × (t + 1 ≤ top₀ + 2 * length body)
+        → Spelled G (suc r) (length (P ++ stop ∷ [])) (P ++ stop ∷ []) S sizes × ((g : ℕ) → get_or S g 0 ≤ length (P ++ stop ∷ [])) × (length (P ++ stop ∷ []) ≤ top₀ + 2 * length body)
     rule_done size = (
-      spelling_end G r X gaps x.lower.plain P S O sizes x.m top₀ t depth (omega (arith, x.few)) x.grown end_fits size x.lower
-          (subst (λ (l : List ℕ). Spelling after G r X P S O x.m t depth (fold (rank_of ranks) (over G (rank_of ranks)) l [])) all_passed x.spelling),
-      λ g. omega (arith, x.low g),
-      end_room,
+      spelling_end G r X gaps x.lower.plain P S O sizes x.m top₀ (omega (arith, x.few)) x.grown size x.lower
+          (subst (λ (l : List ℕ). Spelling after G r X P S O x.m (fold (rank_of ranks) (over G (rank_of ranks)) l [])) all_passed x.spelling),
+      λ g. omega (arith, x.low g, length_put P stop),
+      omega (arith, end_room, length_put P stop),
     )

@@ -1,20 +1,20 @@
 -- A rule's body turned into pieces, turn by turn.
-use Prim.Native.Nat.{ℕ, suc, ◌+◌, ◌*◌, ◌/◌, ◌%◌, ◌≤◌, ◌<◌}
+use Prim.Native.Nat.{ℕ, suc, ◌+◌, ◌*◌, ◌≤◌, ◌<◌}
 use native.Mathlib.Omega.{arith}
 use mathlib.Core.Logic.{◌⊎◌, inl, inr}
 use mathlib.Core.Path.{◌≡◌, refl, ap}
 use mathlib.Core.Bool.{Bool, true, false}
-use mathlib.Core.List.{List, ◌∷◌}
+use mathlib.Core.List.{List, ◌∷◌, ◌++◌}
 use lib.Dec.{T, ltb, eqb}
-use lib.ListN.{length, get_or, set, length-set}
+use lib.ListN.{length, get_or, set, length-set, length-append}
 use lib.Seq.{get_or-set_same, get_or-set_other, set_out}
 use borrow.Author.Tests.{ltb-true, ltb-false, eqb-true, eqb-false, lt-leb, le-leb}
 use Rattle.model.specs.Words.{Class, empty, label, parameter, call, illegal, class_of, rank_of, is_parameter}
 use Rattle.model.specs.Trees.{those, is_legal}
 use Rattle.laws.proofs.Trees.Legal.{legal_call}
 use Rattle.laws.proofs.Trees.Fills.{those_in, those_out}
-use Rattle.queries.specs.Pieces.{stop, Entry, wanted, first_gap, own_pieces, own_top, own_gap, own_starts}
-use Rattle.queries.proofs.Spelling.{Agree}
+use Rattle.queries.specs.declared.pieces.Open.{Open}
+use Rattle.queries.specs.Pieces.{due, next_gap, Entry, wanted, first_gap, own, own_gap, own_starts}
 
 -- starts that are low stay so with one more that is
 pub starts_low_set : (S : List ℕ) (g t : ℕ) → ((j : ℕ) → get_or S j 0 ≤ t) → (j : ℕ) → get_or (set S g t) j 0 ≤ t
@@ -30,25 +30,18 @@ starts_low_set S g t low j = go (eqb j g) refl
 
 -- what putting a word changes
 module _ (w : ℕ) where
-  pub own_length : (P : List ℕ) (t : ℕ) → length (own_pieces w P t) ≡ length P
-  own_length P t = go (class_of w) refl
+  own_short : length (own w) ≤ 1
+  own_short = go (class_of w) refl
     where
-      go : (c : Class) → class_of w ≡ c → length (own_pieces w P t) ≡ length P
-      go empty e = simp (e, length-set)
-      go label e = simp (e, length-set)
-      go (parameter n) e = simp (e, length-set)
-      go (call j) e = simp e
-      go illegal e = simp (e, length-set)
+      go : (c : Class) → class_of w ≡ c → length (own w) ≤ 1
+      go empty e = simp e (omega arith)
+      go label e = simp e (omega arith)
+      go (parameter n) e = simp e (omega arith)
+      go (call j) e = simp e (omega arith)
+      go illegal e = simp e (omega arith)
 
-  pub own_agree : (P : List ℕ) (t : ℕ) → Agree t (own_pieces w P t) P
-  own_agree P t j h = go (class_of w) refl
-    where
-      go : (c : Class) → class_of w ≡ c → get_or (own_pieces w P t) j 0 ≡ get_or P j 0
-      go empty e = simp e (get_or-set_other P t j w 0 (omega arith))
-      go label e = simp e (get_or-set_other P t j w 0 (omega arith))
-      go (parameter n) e = simp e (get_or-set_other P t j stop 0 (omega arith))
-      go (call i) e = simp e
-      go illegal e = simp e (get_or-set_other P t j w 0 (omega arith))
+  pub own_grown : (P : List ℕ) → (length P ≤ length (P ++ own w)) × (length (P ++ own w) ≤ length P + 1)
+  own_grown P = (omega (arith, length-append P (own w)), omega (arith, length-append P (own w), own_short))
 
   pub starts_length : (S : List ℕ) (g t : ℕ) → length (own_starts w S g t) ≡ length S
   starts_length S g t = go (class_of w) refl
@@ -66,29 +59,19 @@ module _ (w : ℕ) where
       go : (c : Class) → class_of w ≡ c → get_or (own_starts w S g t) j 0 ≡ get_or S j 0
       go empty e = simp e
       go label e = simp e
-      go (parameter n) e = simp e (get_or-set_other S (g + 1) j (t + 1) 0 (omega arith))
+      go (parameter n) e = simp e (get_or-set_other S (g + 1) j t 0 (omega arith))
       go (call i) e = simp e
       go illegal e = simp e
 
-  pub own_grown : (t : ℕ) → (t ≤ own_top w t) × (own_top w t ≤ t + 1)
-  own_grown t = go (class_of w) refl
-    where
-      go : (c : Class) → class_of w ≡ c → (t ≤ own_top w t) × (own_top w t ≤ t + 1)
-      go empty e = simp e (omega arith, omega arith)
-      go label e = simp e (omega arith, omega arith)
-      go (parameter n) e = simp e (omega arith, omega arith)
-      go (call j) e = simp e (omega arith, omega arith)
-      go illegal e = simp e (omega arith, omega arith)
-
-  pub starts_low : (S : List ℕ) (g t : ℕ) → ((j : ℕ) → get_or S j 0 ≤ t) → (j : ℕ) → get_or (own_starts w S g t) j 0 ≤ own_top w t
+  pub starts_low : (S : List ℕ) (g t : ℕ) → ((j : ℕ) → get_or S j 0 ≤ t) → (j : ℕ) → get_or (own_starts w S g t) j 0 ≤ t
   starts_low S g t low j = go (class_of w) refl
     where
-      go : (c : Class) → class_of w ≡ c → get_or (own_starts w S g t) j 0 ≤ own_top w t
-      go empty e = simp e (omega (arith, low j))
-      go label e = simp e (omega (arith, low j))
-      go (parameter n) e = simp e (starts_low_set S (g + 1) (t + 1) (λ i. omega (arith, low i)) j)
+      go : (c : Class) → class_of w ≡ c → get_or (own_starts w S g t) j 0 ≤ t
+      go empty e = simp e (low j)
+      go label e = simp e (low j)
+      go (parameter n) e = simp e (starts_low_set S (g + 1) t low j)
       go (call i) e = simp e (low j)
-      go illegal e = simp e (omega (arith, low j))
+      go illegal e = simp e (low j)
 
   -- the number of parameters still to come
   pub own_gap_lem : (m : ℕ) (ws : List ℕ) → own_gap w m + length (those is_parameter ws) ≡ m + length (those is_parameter (w ∷ ws))
@@ -124,10 +107,10 @@ module _ (w : ℕ) where
       go (call j) e = simp e (omega (arith, legal_call n w j e t))
       go illegal e = simp e (omega arith)
 
-  pub first_entry : (ranks : List ℕ) (r e : ℕ) → ((j : ℕ) → get_or ranks j 0 ≤ 4) → r ≤ 256 → T (is_legal r w) → e % 2048 ≡ first_gap w → e / 2048 ≡ suc (rank_of ranks w) → Entry r e
+  pub first_entry : (ranks : List ℕ) (r : ℕ) (e : Open) → ((j : ℕ) → get_or ranks j 0 ≤ 4) → r ≤ 256 → T (is_legal r w) → next_gap e ≡ first_gap w → due e ≡ suc (rank_of ranks w) → Entry r e
   first_entry ranks r e small h t f g = (omega arith, go (class_of w) refl)
     where
-      go : (c : Class) → class_of w ≡ c → (e % 2048 + e / 2048 ≤ 5 * r) ⊎ ((1280 ≤ e % 2048) × (e % 2048 + e / 2048 ≤ 1283))
+      go : (c : Class) → class_of w ≡ c → (next_gap e + due e ≤ 5 * r) ⊎ ((1280 ≤ next_gap e) × (next_gap e + due e ≤ 1283))
       go (call j) q =
           let a : first_gap w ≡ 5 * j = simp q in
           let b : rank_of ranks w ≡ get_or ranks j 0 = simp q in
@@ -138,20 +121,24 @@ module _ (w : ℕ) where
       go illegal q = let a : first_gap w ≡ 1280 = simp q in let b : rank_of ranks w ≡ 0 = simp q in inr (omega arith, omega arith)
 
   -- the room that a word and its gaps take
-  pub own_room : (ranks : List ℕ) (r t e : ℕ) → r ≤ 256 → T (is_legal r w) → e % 2048 ≡ first_gap w → e / 2048 ≡ suc (rank_of ranks w) → own_top w t + wanted e ≤ t + suc (rank_of ranks w)
-  own_room ranks r t e h l f g = go (class_of w) refl
+  pub own_room : (ranks : List ℕ) (r : ℕ) (P : List ℕ) (e : Open) → r ≤ 256 → T (is_legal r w) → next_gap e ≡ first_gap w → due e ≡ suc (rank_of ranks w)
+      → length (P ++ own w) + wanted e ≤ length P + suc (rank_of ranks w)
+  own_room ranks r P e h l f g = go (class_of w) refl
     where
       gone : first_gap w ≡ 1280 → wanted e ≡ 0
-      gone a = rw (le-leb 1280 (e % 2048) (omega arith))
+      gone a = rw (le-leb 1280 (next_gap e) (omega arith))
 
-      go : (c : Class) → class_of w ≡ c → own_top w t + wanted e ≤ t + suc (rank_of ranks w)
+      more : length (P ++ own w) ≡ length P + length (own w)
+      more = length-append P (own w)
+
+      go : (c : Class) → class_of w ≡ c → length (P ++ own w) + wanted e ≤ length P + suc (rank_of ranks w)
       go (call j) q =
           let a : first_gap w ≡ 5 * j = simp q in
-          let s : e % 2048 < 1280 = omega (arith, legal_call r w j q l) in
-          let b : wanted e ≡ e / 2048 = rw (lt-leb 1280 (e % 2048) s) in
-          let o : own_top w t ≡ t = simp q in
-          omega arith
-      go empty q = let a : first_gap w ≡ 1280 = simp q in let o : own_top w t ≡ t + 1 = simp q in omega (arith, gone a)
-      go label q = let a : first_gap w ≡ 1280 = simp q in let o : own_top w t ≡ t + 1 = simp q in omega (arith, gone a)
-      go (parameter n) q = let a : first_gap w ≡ 1280 = simp q in let o : own_top w t ≡ t + 1 = simp q in omega (arith, gone a)
-      go illegal q = let a : first_gap w ≡ 1280 = simp q in let o : own_top w t ≡ t + 1 = simp q in omega (arith, gone a)
+          let s : next_gap e < 1280 = omega (arith, legal_call r w j q l) in
+          let b : wanted e ≡ due e = rw (lt-leb 1280 (next_gap e) s) in
+          let o : length (own w) ≡ 0 = simp q in
+          omega (arith, more)
+      go empty q = let a : first_gap w ≡ 1280 = simp q in omega (arith, gone a, more, own_short)
+      go label q = let a : first_gap w ≡ 1280 = simp q in omega (arith, gone a, more, own_short)
+      go (parameter n) q = let a : first_gap w ≡ 1280 = simp q in omega (arith, gone a, more, own_short)
+      go illegal q = let a : first_gap w ≡ 1280 = simp q in omega (arith, gone a, more, own_short)

@@ -5,16 +5,17 @@ use native.Mathlib.Nat.{add-zero}
 use native.Mathlib.Numerals.{add-one}
 use mathlib.Core.Logic.{◌⊎◌, inl, inr}
 use mathlib.Core.Path.{◌≡◌, refl, sym, ap, ap₂, subst, ◌∙◌}
-use mathlib.Core.Bool.{Bool, true, false, cond}
+use mathlib.Core.Bool.{Bool, true, false}
 use mathlib.Core.List.{List, [], ◌∷◌, ◌++◌, append-nil, append_assoc}
 use lib.Dec.{T, leb, ltb, eqb}
 use lib.Ieee.Fits.{and_i}
-use lib.ListN.{length, get_or, set, length-set, length-append}
-use lib.Seq.{get_or-set_same, get_or-set_other}
-use borrow.Author.Tests.{leb-true, leb-false, ltb-true, eqb-true, eqb-false, ne_eqb, eq-eqb, le-ltb, lt-leb, le-leb}
+use lib.ListN.{length, get_or, length-append, get_or-append}
+use lib.Seq.{get_or-append_seam}
+use Rattle.std.specs.Prelude.{Option, Some, None, option_to_list}
+use borrow.Author.Tests.{leb-true, leb-false, ltb-true, eqb-true, eqb-false, le-ltb, le-leb}
 use Rattle.model.specs.Trees.{all}
 use Rattle.laws.proofs.Words.Lists.{all_append}
-use Rattle.queries.specs.Pieces.{stop, unstopped, meant, spelled, Run, Part, Slice, Spelled, code_for, put_in, put_top}
+use Rattle.queries.specs.Pieces.{stop, unstopped, meant, spelled, Run, Part, Slice, Spelled, code_for}
 use Rattle.queries.proofs.Stops.{small_unstopped}
 
 -- two lists that agree below a place
@@ -92,9 +93,9 @@ part_plain {G} {P} {b} {i} {j} {us} f p = subst (λ l. T (all unstopped l)) p.me
     go (c ∷ cs) = all_append unstopped (meant G c) (spelled G cs) (one c) (go cs)
 
 -- the piece for a gap spells it
-pub data PieceFor (G : ℕ → List ℕ) (r g c : ℕ) : Type 0 where
-  nothing : c ≡ stop → G g ≡ [] → PieceFor G r g c
-  piece : c < 32768 + 5 * r → meant G c ≡ G g → PieceFor G r g c
+pub data PieceFor (G : ℕ → List ℕ) (r g : ℕ) (o : Option ℕ) : Type 0 where
+  nothing : o ≡ None → G g ≡ [] → PieceFor G r g o
+  piece : (c : ℕ) → o ≡ Some c → c < 32768 + 5 * r → meant G c ≡ G g → PieceFor G r g o
 
 no_words : (ws : List ℕ) → length ws ≡ 0 → ws ≡ []
 no_words [] e = refl
@@ -104,12 +105,12 @@ module _ {G : ℕ → List ℕ} {r top : ℕ} {P S sizes : List ℕ} (x : Spelle
   own_piece : (g : ℕ) → g < 5 * r → meant G (32768 + g) ≡ G g
   own_piece g h = let e : 32768 + g - 32768 ≡ g = omega arith in rw (le-ltb (32768 + g) 32768 (omega arith), e)
 
-  single : (g : ℕ) → g < 5 * r → 1 ≤ length (G g) → get_or P (get_or S g 0 + 1) 0 ≡ stop → PieceFor G r g (get_or P (get_or S g 0) 0)
+  single : (g : ℕ) → g < 5 * r → 1 ≤ length (G g) → get_or P (get_or S g 0 + 1) 0 ≡ stop → PieceFor G r g (Some (get_or P (get_or S g 0) 0))
   single g h l e = let s = x.slices g h l in go s.part.codes s.part.runs s.part.means
     where
-      go : (cs : List ℕ) → Run P (g / 5) (get_or S g 0) cs → spelled G cs ≡ G g → PieceFor G r g (get_or P (get_or S g 0) 0)
+      go : (cs : List ℕ) → Run P (g / 5) (get_or S g 0) cs → spelled G cs ≡ G g → PieceFor G r g (Some (get_or P (get_or S g 0) 0))
       go [] q m = absurd (omega (arith, ap length m))
-      go (c ∷ []) q m = piece (omega (arith, q.0, q.1)) (ap (meant G) q.0 ∙ sym (append-nil (meant G c)) ∙ m)
+      go (c ∷ []) q m = piece (get_or P (get_or S g 0) 0) refl (omega (arith, q.0, q.1)) (ap (meant G) q.0 ∙ sym (append-nil (meant G c)) ∙ m)
       go (c ∷ d ∷ cs) q m =
           let a : get_or P (suc (get_or S g 0)) 0 ≡ d = q.2.0 in
           let b : d < 32768 + 5 * (g / 5) = q.2.1 in
@@ -120,51 +121,29 @@ module _ {G : ℕ → List ℕ} {r top : ℕ} {P S sizes : List ℕ} (x : Spelle
   piece_for g k = go (leb 1280 g) (eqb (get_or sizes g 0) 0) (eqb (get_or P (get_or S g 0 + 1) 0) stop) refl refl refl k
     where
       go : (a b c : Bool) → leb 1280 g ≡ a → eqb (get_or sizes g 0) 0 ≡ b → eqb (get_or P (get_or S g 0 + 1) 0) stop ≡ c → (g < 5 * r) ⊎ (1280 ≤ g)
-          → PieceFor G r g (elim a [ true ↦ stop | false ↦ elim b [ true ↦ stop | false ↦ elim c [ true ↦ get_or P (get_or S g 0) 0 | false ↦ 32768 + g ] ] ])
+          → PieceFor G r g (elim a [ true ↦ None | false ↦ elim b [ true ↦ None | false ↦ elim c [ true ↦ Some (get_or P (get_or S g 0) 0) | false ↦ Some (32768 + g) ] ] ])
       go true b c d e f k = nothing refl (x.none g (leb-true 1280 g d))
       go false b c d e f (inr k) = absurd (omega (arith, leb-false 1280 g d))
       go false true c d e f (inl k) = nothing refl (no_words (G g) (sym (x.measured g k) ∙ eqb-true (get_or sizes g 0) 0 e))
       go false false true d e f (inl k) =
           let z : get_or sizes g 0 ≡ 0 → ⊥ = eqb-false (get_or sizes g 0) 0 e in
           single g k (omega (arith, x.measured g k)) (eqb-true (get_or P (get_or S g 0 + 1) 0) stop f)
-      go false false false d e f (inl k) = piece (omega arith) (own_piece g k)
+      go false false false d e f (inl k) = piece (32768 + g) refl (omega arith) (own_piece g k)
 
-pub put_agree : (P : List ℕ) (top c : ℕ) → Agree top (put_in P top c) P
-put_agree P top c j h = go (eqb c stop)
-  where
-    go : (b : Bool) → get_or (cond b P (set P top c)) j 0 ≡ get_or P j 0
-    go true = refl
-    go false = get_or-set_other P top j c 0 (omega arith)
+-- pieces that are put after others leave them as they are
+pub append_agree : (P cs : List ℕ) → Agree (length P) (P ++ cs) P
+append_agree P cs j h = get_or-append P cs 0 j h
 
-pub length_put : (P : List ℕ) (top c : ℕ) → length (put_in P top c) ≡ length P
-length_put P top c = go (eqb c stop)
-  where
-    go : (b : Bool) → length (cond b P (set P top c)) ≡ length P
-    go true = refl
-    go false = length-set P top c
+pub length_put : (P : List ℕ) (c : ℕ) → length (P ++ c ∷ []) ≡ suc (length P)
+length_put P c = omega (arith, length-append P (c ∷ []))
 
 -- a piece that was put spells its gap
-pub part_put : {G : ℕ → List ℕ} {r g c : ℕ} (P : List ℕ) (top : ℕ) → r ≤ 256 → ((c ≡ stop → ⊥) → top < length P) → PieceFor G r g c → Part G (put_in P top c) r top (put_top top c) (G g)
-part_put {G} {r} {g} {c} P top small h (nothing e f) =
-    let z : eqb c stop ≡ true = eq-eqb c stop e in
-    rw (z, f) (part_nil G P r top)
-part_put {G} {r} {g} {c} P top small h (piece l f) =
-    let n : c ≡ stop → ⊥ = λ e. omega arith in
-    let z : eqb c stop ≡ false = ne_eqb c stop n in
-    let k : Part G (set P top c) r top (suc top) (meant G c) = part_one G (set P top c) r top c (get_or-set_same P top c 0 (h n)) l in
-    rw (z, add-one top) (subst (λ l. Part G (set P top c) r top (suc top) l) f k)
+pub part_put : {G : ℕ → List ℕ} {r g : ℕ} {o : Option ℕ} (P : List ℕ) → PieceFor G r g o → Part G (P ++ option_to_list o) r (length P) (length (P ++ option_to_list o)) (G g)
+part_put {G} {r} {g} {o} P (nothing e f) =
+    rw (e, f) (subst (λ (l : List ℕ). Part G l r (length P) (length l) []) (sym (append-nil P)) (part_nil G P r (length P)))
+part_put {G} {r} {g} {o} P (piece c e l f) =
+    let k : Part G (P ++ c ∷ []) r (length P) (suc (length P)) (meant G c) = part_one G (P ++ c ∷ []) r (length P) c (get_or-append_seam P c [] 0) l in
+    rw e (subst (λ (i : ℕ). Part G (P ++ c ∷ []) r (length P) i (G g)) (sym (length_put P c)) (subst (λ (us : List ℕ). Part G (P ++ c ∷ []) r (length P) (suc (length P)) us) f k))
 
--- the piece for a gap, by the cases
-module _ (sizes S P : List ℕ) (g : ℕ) where
-  pub code_none : 1280 ≤ g → code_for sizes S P g ≡ stop
-  code_none h = rw (le-leb 1280 g h, code_for)
-
-  module _ (h : g < 1280) where
-    pub code_empty : get_or sizes g 0 ≡ 0 → code_for sizes S P g ≡ stop
-    code_empty e = rw (lt-leb 1280 g h, eq-eqb (get_or sizes g 0) 0 e, code_for)
-
-    pub code_single : (get_or sizes g 0 ≡ 0 → ⊥) → get_or P (get_or S g 0 + 1) 0 ≡ stop → code_for sizes S P g ≡ get_or P (get_or S g 0) 0
-    code_single n e = rw (lt-leb 1280 g h, ne_eqb (get_or sizes g 0) 0 n, eq-eqb (get_or P (get_or S g 0 + 1) 0) stop e, code_for)
-
-    pub code_gap : (get_or sizes g 0 ≡ 0 → ⊥) → (get_or P (get_or S g 0 + 1) 0 ≡ stop → ⊥) → code_for sizes S P g ≡ 32768 + g
-    code_gap n e = rw (lt-leb 1280 g h, ne_eqb (get_or sizes g 0) 0 n, ne_eqb (get_or P (get_or S g 0 + 1) 0) stop e, code_for)
+pub code_none : (sizes S P : List ℕ) (g : ℕ) → 1280 ≤ g → code_for sizes S P g ≡ None
+code_none sizes S P g h = rw (le-leb 1280 g h, code_for)

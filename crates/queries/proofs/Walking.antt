@@ -37,6 +37,9 @@ pile_agree G P n top Fr Fr' (suc d) ws a p = (
   p.4,
 )
 
+pub walking_agree : {G : ℕ → List ℕ} {P : List ℕ} {n top : ℕ} {Fr tree : List ℕ} {i d skip at : ℕ} (Fr' : List ℕ) → Agree d Fr' Fr → Walking G P n top Fr tree i d skip at → Walking G P n top Fr' tree i d skip at
+walking_agree {G} {P} {n} {top} {Fr} {tree} {i} {d} Fr' a x = record { us = x.us; vs = x.vs; slice = x.slice; pile = pile_agree G P n top Fr Fr' d x.vs a x.pile; rest = x.rest }
+
 pub slice_more : {G : ℕ → List ℕ} {P : List ℕ} {b i top : ℕ} {us : List ℕ} (b' : ℕ) → b ≤ b' → Slice G P b i top us → Slice G P b' i top us
 slice_more b' h s = record { end = s.end; part = part_more b' h s.part; below = s.below; stops = s.stops }
 
@@ -191,7 +194,7 @@ cost_some P S (suc b) c = go (ltb c 32768)
 cost_gap : (P S : List ℕ) (b c : ℕ) → 32768 ≤ c → cost P S (suc b) c ≡ suc (slice_cost P S b (get_or S (c - 32768) 0))
 cost_gap P S b c l = rw (le-ltb c 32768 l, cost)
 
-pile_cost_agree : (P S : List ℕ) (n : ℕ) (Fr Fr' : List ℕ) (d : ℕ) → Agree d Fr' Fr → pile_cost P S n Fr' d ≡ pile_cost P S n Fr d
+pub pile_cost_agree : (P S : List ℕ) (n : ℕ) (Fr Fr' : List ℕ) (d : ℕ) → Agree d Fr' Fr → pile_cost P S n Fr' d ≡ pile_cost P S n Fr d
 pile_cost_agree P S n Fr Fr' zero a = refl
 pile_cost_agree P S n Fr Fr' (suc d) a =
     ap₂ (λ i s. slice_cost P S (n - 1 - d) i + s) (a d (omega arith)) (pile_cost_agree P S n Fr Fr' d (λ j h. a j (omega arith)))

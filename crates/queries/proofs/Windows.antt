@@ -14,17 +14,22 @@ use Rattle.laws.proofs.Words.Classes.{by_explicit}
 use Rattle.model.specs.Trees.{Rule, all, tree_of, nodes, expansions}
 use Rattle.model.specs.Refusals.{Refusal, Result, taken, refused, POSITION}
 use Rattle.model.specs.File.{read}
-use Rattle.model.specs.Answers.{Answer, LabelAnswer, WindowAnswer, accepted, refusal, label_as, label_at, window_as, window_at}
+use Rattle.model.specs.Answers.{LabelAnswer, WindowAnswer, accepted, refusal, label_as, label_at, window_as, window_at}
 use Rattle.laws.specs.Formed.{Tree}
 use Rattle.laws.proofs.Trees.Grammar.{tree_plain}
 use Rattle.laws.proofs.Words.Lists.{all_cons}
-use Rattle.grammar.specs.Meaning.{reading_of, query_answer}
+use Rattle.std.specs.Prelude.{Ok, Err}
+use Rattle.grammar.specs.declared.refusals.Refusal.{Refusal as Code}
+use Rattle.grammar.specs.declared.refusals.Refusal.TheVariants.{Position}
+use Rattle.grammar.specs.declared.refusals.Refused.{Refused}
+use Rattle.grammar.specs.declared.rules.Entry.{Entry}
+use Rattle.grammar.specs.Meaning.{reading_is, reading_of, refusal_is, query_answer}
 use Rattle.grammar.proofs.Answering.{query_refused}
 use Rattle.grammar.specs.Measures.{Denotes}
 use Rattle.queries.specs.Pieces.{stop, stopped, unstopped, up_to, Walkable, Walked}
 use Rattle.queries.specs.Building.{rules_of, gaps_of, Spelt}
 use Rattle.queries.proofs.Stops.{tree_word, small_unstopped, up_to_all, gap_at}
-use Rattle.queries.proofs.HeldRules.{named, first_place, none_over, plain, gap_measured}
+use Rattle.queries.proofs.HeldRules.{named, as_many, rules_few, first_place, none_over, plain, gap_measured}
 
 -- nothing but 0
 pub zeros_at : (m c : ℕ) → get_or (replicate {A = ℕ} m 0) c 0 ≡ 0
@@ -49,59 +54,58 @@ tree_some : (ws : List ℕ) → Tree [] ws → 1 ≤ length ws
 tree_some [] t = absurd (omega (arith, t.1))
 tree_some (w ∷ ws) t = omega arith
 
-module _ {file : List ℕ} {n : ℕ} {table sizes : List ℕ} (H : Denotes file n table sizes) where
-  pub nothing_spelt : (P S : List ℕ) → length P ≡ 16384 → S ≡ replicate 1280 0 → Spelt file n 0 table sizes P S 0
-  nothing_spelt P S lp e =
+module _ {file : List ℕ} {rules : List Entry} {sizes : List ℕ} (H : Denotes file rules sizes) where
+  pub nothing_spelt : Spelt file 0 rules sizes [] (replicate 1280 0)
+  nothing_spelt =
       record {
         held = H;
         spells = record { none = none_over H; plain = plain H; measured = λ g h. absurd (omega arith); slices = λ g h. absurd (omega arith) };
-        long = ap length e ∙ length-replicate {A = ℕ} 1280 0;
-        low = λ g. omega (arith, ap (λ (l : List ℕ). get_or l g 0) e, zeros_at 1280 g);
-        pieces_long = lp;
+        long = length-replicate {A = ℕ} 1280 0;
+        low = λ g. omega (arith, zeros_at 1280 g);
         room = λ h. omega (arith, first_place H);
         fits = omega arith;
       }
 
-  start_gap : gaps_of file (5 * (n - 1)) ≡ tree_of (rules_of file)
+  start_gap : gaps_of file (5 * (length rules - 1)) ≡ tree_of (rules_of file)
   start_gap =
       let R = rules_of file in
-      let z : 5 * (n - 1) ≡ 5 * (n - 1) + 0 = omega arith in
+      let z : 5 * (length rules - 1) ≡ 5 * (length rules - 1) + 0 = omega arith in
       let p = tree_plain R (named H).is_formed in
-      let m : n - 1 ≡ length R - 1 = omega (arith, (named H).count) in
-      ap (gaps_of file) z ∙ gap_at (expansions R) (n - 1) 0 (omega arith)
+      let m : length rules - 1 ≡ length R - 1 = omega (arith, as_many H) in
+      ap (gaps_of file) z ∙ gap_at (expansions R) (length rules - 1) 0 (omega arith)
       ∙ ap (λ (k : ℕ). up_to (map stopped (get_or (expansions R) k []))) m
       ∙ ap up_to (tree_stopped (tree_of R) p.words) ∙ up_to_all (tree_of R) (tree_unstopped (tree_of R) p.words)
 
   -- N
-  start_size : get_or sizes (5 * (n - 1)) 0 ≡ nodes (rules_of file)
+  start_size : get_or sizes (5 * (length rules - 1)) 0 ≡ nodes (rules_of file)
   start_size =
-      let z : 5 * (n - 1) ≡ 5 * (n - 1) + 0 = omega arith in
-      ap (λ (k : ℕ). get_or sizes k 0) z ∙ gap_measured H (n - 1) 0 (omega (arith, H.some)) (omega arith)
+      let z : 5 * (length rules - 1) ≡ 5 * (length rules - 1) + 0 = omega arith in
+      ap (λ (k : ℕ). get_or sizes k 0) z ∙ gap_measured H (length rules - 1) 0 (omega (arith, rules_few H)) (omega arith)
       ∙ ap (λ (k : ℕ). length (gaps_of file k)) (sym z) ∙ ap length start_gap
 
   start_some : 1 ≤ nodes (rules_of file)
   start_some = tree_some (tree_of (rules_of file)) (tree_plain (rules_of file) (named H).is_formed).tree
 
-  module _ {P S : List ℕ} {t : ℕ} (s : Spelt file n n table sizes P S t) where
-    pub walkable : (p many : ℕ) → p + many ≤ nodes (rules_of file) → Walkable P S sizes n p many
+  module _ {P S : List ℕ} (s : Spelt file (length rules) rules sizes P S) where
+    pub walkable : (p many : ℕ) → p + many ≤ nodes (rules_of file) → Walkable P S sizes (length rules) p many
     walkable p many h =
         record {
           G = gaps_of file;
-          top = t;
+          top = length P;
           spells = s.spells;
-          within = omega (arith, s.fits, s.pieces_long);
-          short = omega (arith, s.pieces_long);
-          some_rules = H.some;
-          few_rules = H.few;
+          within = omega arith;
+          short = s.fits;
+          some_rules = (rules_few H).0;
+          few_rules = (rules_few H).1;
           wide = H.longer;
           long = omega (arith, s.long);
           some_words = omega (arith, start_size, start_some);
           fits = omega (arith, start_size);
         }
 
-    pub window_words : (p many : ℕ) (out : List ℕ) → length out ≡ many → Walked P S sizes n p out → out ≡ take many (drop p (tree_of (rules_of file)))
+    pub window_words : (p many : ℕ) (out : List ℕ) → length out ≡ many → Walked P S sizes (length rules) p out → out ≡ take many (drop p (tree_of (rules_of file)))
     window_words p many out l w =
-        w (gaps_of file) t s.spells (omega (arith, s.fits, s.pieces_long))
+        w (gaps_of file) (length P) s.spells (omega arith)
         ∙ ap₂ (λ (k : ℕ) (ws : List ℕ). take k (drop p ws)) l start_gap
 
 -- the model's answer
@@ -143,26 +147,26 @@ reading_refused (taken rules) x k e = absurd (let z : ◌≡◌ {A = ℕ} 0 1 = 
 reading_refused (refused y j) x k e = cc
 
 -- what the code answers is what the model does: a file that is refused
-pub answer_refused : (file : List ℕ) (p many : ℕ) (m : Result ℕ) (x : Refusal) (k : ℕ) → m ≡ refused x k → m ≡ reading_of (read file) → (a : Answer) → a ≡ query_answer m
-    → (out : List ℕ) → out ≡ replicate many 65535 → (a ≡ (window_at file p many).answer) × (out ≡ (window_at file p many).window)
-answer_refused file p many m x k e f a q out o =
-    let r = reading_refused (read file) x k (sym e ∙ f) in
-    let w = window_refused file p many x k r in
-    (q ∙ ap query_answer e ∙ query_refused file x k r ∙ ap (λ (v : WindowAnswer). v.answer) (sym w), o ∙ ap (λ (v : WindowAnswer). v.window) (sym w))
+pub answer_refused : (file : List ℕ) (p many : ℕ) (x : Refused) → reading_is {A = ℕ} (Err x) ≡ reading_of (read file)
+    → (query_answer {A = ℕ} (reading_is (Err x)) ≡ (window_at file p many).answer) × (replicate many 65535 ≡ (window_at file p many).window)
+answer_refused file p many x f =
+    let r = reading_refused (read file) (refusal_is x.refusal) x.place f in
+    let w = window_refused file p many (refusal_is x.refusal) x.place r in
+    (query_refused file (refusal_is x.refusal) x.place r ∙ ap (λ (v : WindowAnswer). v.answer) (sym w), ap (λ (v : WindowAnswer). v.window) (sym w))
 
-module _ {file : List ℕ} {n : ℕ} {table sizes : List ℕ} (d : Denotes file n table sizes) (p many : ℕ) where
+module _ {file : List ℕ} {table : List Entry} {sizes : List ℕ} (d : Denotes file table sizes) (p many : ℕ) where
   -- a place outside the tree
-  pub answer_outside : nodes (rules_of file) < p + many → (a : Answer) → a ≡ refusal POSITION 0 → (out : List ℕ) → out ≡ replicate many 65535
-      → (a ≡ (window_at file p many).answer) × (out ≡ (window_at file p many).window)
-  answer_outside h a q out o =
-      let w = window_outside file p many (rules_of file) (named d).is h in
-      (q ∙ ap (λ (v : WindowAnswer). v.answer) (sym w), o ∙ ap (λ (v : WindowAnswer). v.window) (sym w))
+  pub answer_outside : nodes (rules_of file) < p + many → (x : Refused) → x.refusal ≡ Position → x.place ≡ 0
+      → (query_answer {A = ℕ} (reading_is (Err x)) ≡ (window_at file p many).answer) × (replicate many 65535 ≡ (window_at file p many).window)
+  answer_outside h x e k =
+      let w = window_outside file p many (rules_of file) (named d).is h in (
+        ap₂ (λ (y : Code) (j : ℕ). query_answer {A = ℕ} (refused (refusal_is y) j)) e k ∙ ap (λ (v : WindowAnswer). v.answer) (sym w),
+        ap (λ (v : WindowAnswer). v.window) (sym w),
+      )
 
   -- a window within it
-  pub answer_inside : p + many ≤ nodes (rules_of file) → (m : Result ℕ) → m ≡ reading_of (read file) → (a : Answer) → a ≡ query_answer m
-      → (out : List ℕ) → out ≡ take many (drop p (tree_of (rules_of file))) → (a ≡ (window_at file p many).answer) × (out ≡ (window_at file p many).window)
-  answer_inside h m f a q out o =
-      let w = window_inside file p many (rules_of file) (named d).is h in (
-        q ∙ ap query_answer (f ∙ ap reading_of d.is) ∙ ap (λ (v : WindowAnswer). v.answer) (sym w),
-        o ∙ ap (λ (v : WindowAnswer). v.window) (sym w),
-      )
+  pub answer_inside : p + many ≤ nodes (rules_of file) → (n : ℕ) (out : List ℕ) → out ≡ take many (drop p (tree_of (rules_of file)))
+      → (query_answer (reading_is (Ok n)) ≡ (window_at file p many).answer) × (out ≡ (window_at file p many).window)
+  answer_inside h n out o =
+      let w = window_inside file p many (rules_of file) (named d).is h in
+      (ap (λ (v : WindowAnswer). v.answer) (sym w), o ∙ ap (λ (v : WindowAnswer). v.window) (sym w))

@@ -1,8 +1,12 @@
 -- Gap strings. The words of a rule's expansion between two of its parameters are a gap; rule j has its gaps at 5j to 5j + 4. A gap is spelled as pieces: a word, or
 -- 32,768 + g for the words of gap g of a lower rule. The pieces of a gap end with a stop.
-use Rattle.std.specs.Prelude.{ℕ, zero, suc, ◌+◌, ◌*◌, ◌-◌, ◌/◌, ◌%◌, ◌≤◌, ◌<◌, ◌≡◌, ◌⊎◌, Bool, true, false, cond, not, List, [], ◌∷◌, ◌++◌, map, T, leb, ltb, eqb, length, get_or, take, drop, set}
+use Rattle.std.specs.Prelude.{ℕ, zero, suc, ◌+◌, ◌*◌, ◌-◌, ◌/◌, ◌%◌, ◌≤◌, ◌<◌, ◌≡◌, ◌⊎◌, Bool, true, false, cond, not, Option, Some, None, List, [], ◌∷◌, ◌++◌, map, T, leb, ltb, eqb, length, get_or, take, drop, set}
+use Rattle.std.specs.List.{All, sum_by}
 use Rattle.model.specs.Words.{class_of, by_class, when_parameter}
 use Rattle.model.specs.Trees.{all, join}
+use Rattle.queries.specs.declared.pieces.Piece.{Piece}
+use Rattle.queries.specs.declared.pieces.Piece.TheVariants as pieces
+use Rattle.queries.specs.declared.pieces.Open.{Open}
 
 abbrev pub stop : ℕ
 stop = 65535
@@ -30,6 +34,12 @@ past_all (suc m) ws = past_all m (past ws)
 -- the words of a gap, by the expansions of the rules
 unfoldable pub gap_of : List (List ℕ) → ℕ → List ℕ
 gap_of expansions g = up_to (past_all (g % 5) (map stopped (get_or expansions (g / 5) [])))
+
+-- what the piece c is: a word, the gap g, or a stop
+abbrev pub PieceIs : Piece → ℕ → Type 0
+PieceIs (pieces.Word w) c = (c < 32768) × (w ≡ c)
+PieceIs (pieces.Gap g) c = (32768 ≤ c) × (c ≡ stop → ⊥) × (g ≡ c - 32768)
+PieceIs pieces.Stop c = c ≡ stop
 
 -- the words that a piece, and that pieces stand for; G has the words of each gap
 abbrev pub meant : (ℕ → List ℕ) → ℕ → List ℕ
@@ -65,23 +75,16 @@ pub record Spelled (G : ℕ → List ℕ) (n top : ℕ) (pieces starts sizes : L
   pub measured : (g : ℕ) → g < 5 * n → get_or sizes g 0 ≡ length (G g)
   pub slices : (g : ℕ) → g < 5 * n → 1 ≤ length (G g) → Slice G pieces (g / 5) (get_or starts g 0) top (G g)
 
--- the piece to put for gap g: none, a stop, where it has no words; the gap's own piece where it has only one
-abbrev pub code_for : List ℕ → List ℕ → List ℕ → ℕ → ℕ
+-- the piece to put for gap g: none where it has no words; the gap's own piece where it has only one
+abbrev pub code_for : List ℕ → List ℕ → List ℕ → ℕ → Option ℕ
 code_for sizes starts pieces g =
     elim (leb 1280 g) [
-      | true ↦ stop
+      | true ↦ None
       | false ↦ elim (eqb (get_or sizes g 0) 0) [
-        | true ↦ stop
-        | false ↦ elim (eqb (get_or pieces (get_or starts g 0 + 1) 0) stop) [ true ↦ get_or pieces (get_or starts g 0) 0 | false ↦ 32768 + g ]
+        | true ↦ None
+        | false ↦ elim (eqb (get_or pieces (get_or starts g 0 + 1) 0) stop) [ true ↦ Some (get_or pieces (get_or starts g 0) 0) | false ↦ Some (32768 + g) ]
       ]
     ]
-
--- the piece c put at the place top, and the place after it: nothing for a stop
-abbrev pub put_in : List ℕ → ℕ → ℕ → List ℕ
-put_in pieces top c = cond (eqb c stop) pieces (set pieces top c)
-
-abbrev pub put_top : ℕ → ℕ → ℕ
-put_top top c = cond (eqb c stop) top (top + 1)
 
 -- what follows where the next of the trees is due: the tree, then f of the others
 abbrev pub after : (List (List ℕ) → List ℕ) → List (List ℕ) → List ℕ
@@ -94,46 +97,54 @@ filling G g zero f ts = f ts
 filling G g (suc zero) f ts = G g ++ f ts
 filling G g (suc (suc n)) f ts = G g ++ after (filling G (suc g) (suc n) f) ts
 
--- the words of a body that are open, d of them, the lowest on top: 2048 times the gaps still due, and the next of them
-abbrev pub closing : (ℕ → List ℕ) → List ℕ → ℕ → List (List ℕ) → List ℕ
-closing G opens zero ts = join ts
-closing G opens (suc d) ts = filling G (get_or opens d 0 % 2048) (get_or opens d 0 / 2048) (closing G opens d) ts
+-- an open word of a body: how many of its gaps are still due, and the next of them; what has no gaps has 1,280, which no rule has
+abbrev pub due : Open → ℕ
+due e = e.0 / 2048
+
+abbrev pub next_gap : Open → ℕ
+next_gap e = e.0 % 2048
+
+-- the words of a body that are open, the lowest last; f follows them
+abbrev pub closing_over : (ℕ → List ℕ) → (List (List ℕ) → List ℕ) → List Open → List (List ℕ) → List ℕ
+closing_over G f [] = f
+closing_over G f (e ∷ es) = closing_over G (filling G (next_gap e) (due e) f) es
+
+abbrev pub closing : (ℕ → List ℕ) → List Open → List (List ℕ) → List ℕ
+closing G opens = closing_over G join opens
 
 -- an open word that names gaps of rules below r, or none
-abbrev pub Entry : ℕ → ℕ → Type 0
-Entry r e = (1 ≤ e / 2048) × ((e % 2048 + e / 2048 ≤ 5 * r) ⊎ ((1280 ≤ e % 2048) × (e % 2048 + e / 2048 ≤ 1283)))
+abbrev pub Entry : ℕ → Open → Type 0
+Entry r e = (1 ≤ due e) × ((next_gap e + due e ≤ 5 * r) ⊎ ((1280 ≤ next_gap e) × (next_gap e + due e ≤ 1283)))
 
-abbrev pub Entries : ℕ → List ℕ → ℕ → Type 0
-Entries r opens d = (j : ℕ) → j < d → Entry r (get_or opens j 0)
+abbrev pub Entries : ℕ → List Open → Type 0
+Entries r opens = All (Entry r) opens
 
 -- the pieces that open words may still want
-abbrev pub wanted : ℕ → ℕ
-wanted e = cond (leb 1280 (e % 2048)) 0 (e / 2048)
+abbrev pub wanted : Open → ℕ
+wanted e = cond (leb 1280 (next_gap e)) 0 (due e)
 
-abbrev pub all_wanted : List ℕ → ℕ → ℕ
-all_wanted opens zero = 0
-all_wanted opens (suc d) = wanted (get_or opens d 0) + all_wanted opens d
+abbrev pub all_wanted : List Open → ℕ
+all_wanted opens = sum_by wanted opens
 
--- From the places top₀ and depth₀ to top and depth: pieces were put for what the open words give until the next tree is due. K says what is due then.
-pub record Closes (K : (List (List ℕ) → List ℕ) → List (List ℕ) → List ℕ) (starts sizes pieces₀ opens₀ : List ℕ) (top₀ depth₀ : ℕ) (pieces opens : List ℕ) (top depth : ℕ) : Type 0 where
-  pub length_pieces : length pieces ≡ length pieces₀
-  pub length_opens : length opens ≡ length opens₀
-  pub kept : (j : ℕ) → j < top₀ → get_or pieces j 0 ≡ get_or pieces₀ j 0
-  pub grown : top₀ ≤ top
-  pub lower : depth ≤ depth₀
-  pub room : top + all_wanted opens depth ≤ top₀ + all_wanted opens₀ depth₀
-  pub entries : (r : ℕ) → Entries r opens₀ depth₀ → Entries r opens depth
-  pub says : (G : ℕ → List ℕ) (r base : ℕ) → Spelled G r base pieces₀ starts sizes → r ≤ 256 → base ≤ top₀ → Entries r opens₀ depth₀
-      → (us : List ℕ) × Part G pieces r top₀ top us × ((ts : List (List ℕ)) → closing G opens₀ depth₀ ts ≡ us ++ K (closing G opens depth) ts)
+-- Pieces were put for what the open words give until the next tree is due. K says what is due then.
+pub record Closes (K : (List (List ℕ) → List ℕ) → List (List ℕ) → List ℕ) (starts sizes pieces₀ : List ℕ) (opens₀ : List Open) (pieces : List ℕ) (opens : List Open) : Type 0 where
+  pub kept : (j : ℕ) → j < length pieces₀ → get_or pieces j 0 ≡ get_or pieces₀ j 0
+  pub grown : length pieces₀ ≤ length pieces
+  pub lower : length opens ≤ length opens₀
+  pub room : length pieces + all_wanted opens ≤ length pieces₀ + all_wanted opens₀
+  pub entries : (r : ℕ) → Entries r opens₀ → Entries r opens
+  pub says : (G : ℕ → List ℕ) (r base : ℕ) → Spelled G r base pieces₀ starts sizes → r ≤ 256 → base ≤ length pieces₀ → Entries r opens₀
+      → (us : List ℕ) × Part G pieces r (length pieces₀) (length pieces) us × ((ts : List (List ℕ)) → closing G opens₀ ts ≡ us ++ K (closing G opens) ts)
 
--- what closing asks
-pub record Closable (sizes starts pieces opens : List ℕ) (top depth : ℕ) : Type 0 where
+-- what closing asks: the open words name gaps of the rules that are spelled, and there is room for the pieces that they want
+pub record Closable (sizes starts pieces : List ℕ) (opens : List Open) : Type 0 where
+  pub rules : ℕ
+  pub few : rules ≤ 256
   pub wide : 1280 ≤ length sizes
-  pub long : 1280 ≤ length starts
-  pub low : (g : ℕ) → get_or starts g 0 + 1 < length pieces
-  pub deep : depth ≤ length opens
-  pub entries : Entries 256 opens depth
-  pub room : top + all_wanted opens depth ≤ length pieces
+  pub low : (g : ℕ) → g < 5 * rules → 1 ≤ get_or sizes g 0 → get_or starts g 0 + 1 < length pieces
+  pub deep : length opens ≤ 8192
+  pub entries : Entries rules opens
+  pub room : length pieces + all_wanted opens ≤ 16384
 
 -- what a word itself gives, and the first of its gaps; what has no gaps has 1,280, which no rule has
 abbrev pub own : ℕ → List ℕ
@@ -151,18 +162,12 @@ between G g (suc k) ts = G g ++ (get_or ts 0 [] ++ between G (suc g) k (drop 1 t
 abbrev pub over : (ℕ → List ℕ) → (ℕ → ℕ) → ℕ → List (List ℕ) → List ℕ
 over G rank w ts = own w ++ between G (first_gap w) (rank w) ts
 
--- a word of a body put at the place top: a label or ⊥ as itself, a parameter as a stop, after which the next gap starts
-abbrev pub own_pieces : ℕ → List ℕ → ℕ → List ℕ
-own_pieces w pieces top = by_class (record { empty = set pieces top w; label = set pieces top w; parameter = λ n. set pieces top stop; call = λ j. pieces; illegal = set pieces top w }) (class_of w)
-
-abbrev pub own_top : ℕ → ℕ → ℕ
-own_top w top = by_class (record { empty = top + 1; label = top + 1; parameter = λ n. top + 1; call = λ j. top; illegal = top + 1 }) (class_of w)
-
+-- the gap that is put after a word of a body, and where gaps start: after a parameter the next one, at the place `top`
 abbrev pub own_gap : ℕ → ℕ → ℕ
 own_gap w gap = when_parameter gap (λ n. gap + 1) w
 
 abbrev pub own_starts : ℕ → List ℕ → ℕ → ℕ → List ℕ
-own_starts w starts gap top = when_parameter starts (λ n. set starts (gap + 1) (top + 1)) w
+own_starts w starts gap top = when_parameter starts (λ n. set starts (gap + 1) top) w
 
 -- what a walk over the pieces asks: p and as many words more are within the start rule's gap
 pub record Walkable (pieces starts sizes : List ℕ) (n p many : ℕ) : Type 0 where

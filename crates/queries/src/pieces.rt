@@ -1,199 +1,185 @@
 // A grammar's bodies as gap strings.
-ghost use Rattle.std.specs.Prelude.{◌≡◌, true, ℕ, suc, ◌+◌, ◌≤◌, ◌<◌, length, get_or};
-ghost use Rattle.model.specs.Words.{is_parameter};
-ghost use Rattle.queries.specs.Pieces.{stop, code_for, put_in, put_top, after, Closes, Closable, first_gap, own_pieces, own_top, own_gap, own_starts};
+ghost use Rattle.std.specs.Prelude.{◌≡◌, ℕ, suc, ◌+◌, ◌*◌, ◌≤◌, ◌<◌, [], ◌∷◌, ◌++◌, length, get_or, IsSome, replicate, MatchOption, option_to_list};
+ghost use Rattle.arrayvec.specs.ArrayVec.{array_vec_len};
+ghost use Rattle.queries.specs.Pieces.{PieceIs, due, next_gap, code_for, after, Closes, Closable, first_gap, own, own_gap, own_starts};
 ghost use Rattle.queries.specs.Building.{Spelt};
 
+use arrayvec::ArrayVec;
 use grammar::bodies::rank_of;
 use grammar::file::word_at;
-use grammar::rules::{place, words};
-use grammar::words::{Word, sort};
+use grammar::rules::Entry;
+use grammar::words::Word;
 
 // The piece that ends a gap.
 pub const STOP: u16 = 65535;
 
-// The piece to put for gap g: none, a stop, where it has no words; the gap's own piece where it has only one.
-fn code_for(sizes: &[u64], starts: &[u16], pieces: &[u16], g: usize) -> u16
-    requires { (1280 ≤ length sizes.now) × (1280 ≤ length starts.now) × ((g : ℕ) → get_or starts.now g 0 + 1 < length pieces.now) }
-    ensures { result ≡ code_for sizes.now starts.now pieces.now g }
-{
-    if 1280 <= g {
-        return STOP;
-    }
-    if sizes[g] == 0 {
-        return STOP;
-    }
-    let s = starts[g] as usize;
-    if pieces[s + 1] == STOP {
-        return pieces[s];
-    }
-    32768 + g as u16
-}
-
-// Puts a piece, unless it is a stop, and says the place after it.
-fn put(pieces: &mut [u16], top: usize, c: u16) -> usize
-    requires { (c ≡ stop → ⊥) → top < length pieces.old }
-    ensures { (result ≡ put_top top c) × (pieces.new ≡ put_in pieces.old top c) }
-{
-    if c == STOP {
-        return top;
-    }
-    pieces[top] = c;
-    top + 1
-}
-
-// How many pieces there are, and how many words of the body are open.
+// What a piece stands for: a word, the words of a gap, or the end of the gap that it is put in.
 #[derive(Clone, Copy)]
-pub struct Place {
-    pub top: usize,
-    pub depth: usize,
+pub(crate) enum Piece {
+    Word(u16),
+    Gap(usize),
+    Stop,
 }
 
-// A gap of the lowest open word is due: puts it, and goes on upwards where it was the word's last. An open word is one number: 2048 times its gaps that are still
-// due, and the next of them, which is below 2048.
-fn close(
-    sizes: &[u64],
-    starts: &[u16],
-    pieces: &mut [u16],
-    opens: &mut [u16],
-    top: usize,
-    depth: usize,
-) -> Place
-    requires { Closable sizes.now starts.now pieces.old opens.old top depth }
-    ensures { Closes after starts.now sizes.now pieces.old opens.old top depth pieces.new opens.new result.top result.depth }
+pub(crate) fn sort_piece(c: u16) -> Piece
+    ensures { PieceIs result c }
 {
-    let mut t = top;
-    let mut d = depth;
-    while 0 < d {
-        let e = opens[d - 1];
-        let c = code_for(sizes, starts, pieces, (e % 2048) as usize);
-        t = put(pieces, t, c);
-        if 4096 <= e {
-            opens[d - 1] = e - 2047;
-            return Place { top: t, depth: d };
-        }
-        d -= 1;
+    match c {
+        0..=32767 => Piece::Word(c),
+        STOP => Piece::Stop,
+        _ => Piece::Gap((c - 32768) as usize),
     }
-    Place { top: t, depth: d }
 }
 
-// How many pieces there are, and the gap whose pieces come next.
-#[derive(Clone, Copy)]
-pub struct Next {
-    pub top: usize,
-    pub gap: usize,
+// A word of a body that is open: how many of its gaps are still due, one or more, and the next of them. It is one number, 2048 times how many, and the next, which
+// is below 2048; what has no gaps has 1,280, which no rule has. Two fields would take twice the stack, and over 8,000 words may be open.
+#[derive(Clone, Copy, Default)]
+pub(crate) struct Open(u16);
+
+impl Open {
+    // A word of a body, of the given rank: all its gaps are due.
+    fn new(w: u16, rank: usize) -> Self
+        requires { (rank ≤ 4) × (first_gap w ≤ 1280) }
+        ensures { (due result ≡ rank + 1) × (next_gap result ≡ first_gap w) }
+    {
+        let gap = match Word::from(w) {
+            Word::Call(j) => 5 * j,
+            Word::Empty | Word::Label | Word::Parameter(_) | Word::Illegal => 1280,
+        };
+        Open(2048 * (rank as u16 + 1) + gap)
+    }
+
+    // The gap that is due, where the word has gaps.
+    fn gap(self) -> Option<usize>
+        ensures { MatchOption result (1280 ≤ next_gap self) (λ g. (g ≡ next_gap self) × (g < 1280)) }
+    {
+        let g = (self.0 % 2048) as usize;
+        if g < 1280 { Some(g) } else { None }
+    }
+
+    // The word once that gap is given, where it was not the last.
+    fn next(self) -> Option<Self>
+        requires { next_gap self < 2047 }
+        ensures { MatchOption result (due self ≤ 1) (λ e. (next_gap e ≡ suc (next_gap self)) × (suc (due e) ≡ due self) × (1 ≤ due e)) }
+    {
+        if 4096 <= self.0 {
+            Some(Open(self.0 - 2047))
+        } else {
+            None
+        }
+    }
 }
 
-// Puts what a word of a body itself gives: a label or ⊥ is its own piece, and a parameter ends a gap, so that the next one starts.
-fn put_own(pieces: &mut [u16], starts: &mut [u16], w: u16, top: usize, gap: usize) -> Next
-    requires { (top < length pieces.old) × (length pieces.old ≤ 16384) × (gap < 1280) × (is_parameter w ≡ true → gap + 1 < length starts.old) }
-    ensures top_value { (result.top ≡ own_top w top) × (result.gap ≡ own_gap w gap) }
-    ensures pieces_after { pieces.new ≡ own_pieces w pieces.old top }
-    ensures starts_after { starts.new ≡ own_starts w starts.old gap top }
-{
-    match sort(w) {
-        Word::Call(_) => Next { top: top, gap: gap },
-        Word::Parameter(_) => {
-            pieces[top] = STOP;
-            starts[gap + 1] = (top + 1) as u16;
-            Next {
-                top: top + 1,
-                gap: gap + 1,
+// The gap strings of the rules of a grammar, from the lowest up: the pieces of all their gaps, and where those of each gap start. The sizes are the grammar's.
+#[derive(Drop)]
+pub(crate) struct GapStrings<'a> {
+    pub(crate) sizes: &'a [u64],
+    pub(crate) starts: [u16; 1280],
+    pub(crate) pieces: ArrayVec<u16, 16384>,
+}
+
+impl<'a> GapStrings<'a> {
+    // The gaps of all these rules of the file as pieces.
+    pub(crate) fn new(file: &[u8], rules: &[Entry], sizes: &'a [u64]) -> Self
+        requires { Spelt file.now 0 rules.now sizes.now [] (replicate 1280 0) }
+        ensures spelt { Spelt file.now (length rules.now) rules.now result.sizes.now result.pieces.items result.starts }
+        ensures sizes_kept { result.sizes.now ≡ sizes.now }
+    {
+        let mut strings = GapStrings {
+            sizes,
+            starts: [0; 1280],
+            pieces: ArrayVec::new(),
+        };
+        let mut opens = ArrayVec::new();
+        for r in 0..rules.len() {
+            strings.spell(file, rules, r, &mut opens);
+        }
+        strings
+    }
+
+    // The gaps of rule r as pieces, after those of the rules below it.
+    fn spell(&mut self, file: &[u8], rules: &[Entry], r: usize, opens: &mut ArrayVec<Open, 8192>)
+        requires { Spelt file.now r rules.now self.old.sizes.now self.old.pieces.items self.old.starts × (r < length rules.now) }
+        ensures spelt { Spelt file.now (suc r) rules.now self.new.sizes.now self.new.pieces.items self.new.starts }
+        ensures sizes_kept { self.new.sizes.now ≡ self.old.sizes.now }
+    {
+        let body = rules[r].body(file);
+        let mut gap = 5 * r;
+        self.starts[gap] = self.pieces.len() as u16;
+        opens.clear();
+        for i in 0..body.len() / 2 {
+            let w = word_at(body, 2 * i);
+            gap = self.put_own(w, gap);
+            self.close(Open::new(w, rank_of(rules, w)), opens);
+        }
+        self.pieces.push(STOP); // of the rule's last gap
+    }
+
+    // Puts what a word of a body itself gives: a label or ⊥ is its own piece, and a parameter ends a gap, so that the next one starts. Says which gap is put then.
+    fn put_own(&mut self, w: u16, gap: usize) -> usize
+        requires { (array_vec_len self.old.pieces < 16384) × (gap < 1280) × (own_gap w gap < 1280) }
+        ensures gap_value { result ≡ own_gap w gap }
+        ensures pieces_after { self.new.pieces.items ≡ self.old.pieces.items ++ own w }
+        ensures starts_after { self.new.starts ≡ own_starts w self.old.starts gap (array_vec_len self.new.pieces) }
+        ensures sizes_kept { self.new.sizes.now ≡ self.old.sizes.now }
+    {
+        match Word::from(w) {
+            Word::Call(_) => gap,
+            Word::Parameter(_) => {
+                self.pieces.push(STOP);
+                self.starts[gap + 1] = self.pieces.len() as u16;
+                gap + 1
+            }
+            Word::Empty | Word::Label | Word::Illegal => {
+                self.pieces.push(w);
+                gap
             }
         }
-        Word::Empty => {
-            pieces[top] = w;
-            Next {
-                top: top + 1,
-                gap: gap,
+    }
+
+    // A gap of `word`, the lowest open word, is due: puts it, and goes on upwards where it was the word's last.
+    fn close(&mut self, word: Open, opens: &mut ArrayVec<Open, 8192>)
+        requires { Closable self.old.sizes.now self.old.starts self.old.pieces.items (opens.old.items ++ word ∷ []) }
+        ensures closes { Closes after self.old.starts self.old.sizes.now self.old.pieces.items (opens.old.items ++ word ∷ []) self.new.pieces.items opens.new.items }
+        ensures starts_kept { self.new.starts ≡ self.old.starts }
+        ensures sizes_kept { self.new.sizes.now ≡ self.old.sizes.now }
+    {
+        let mut due = Some(word);
+        while let Some(lowest) = due {
+            let piece = self.piece_for(lowest);
+            put(&mut self.pieces, piece);
+            if let Some(next) = lowest.next() {
+                opens.push(next);
+                return;
             }
+            due = opens.pop();
         }
-        Word::Label => {
-            pieces[top] = w;
-            Next {
-                top: top + 1,
-                gap: gap,
-            }
+    }
+
+    // The piece to put for the next gap of an open word: none where the gap has no words; the gap's own piece where it has only one.
+    fn piece_for(&self, word: Open) -> Option<u16>
+        requires { (1280 ≤ length self.now.sizes.now)
+            × (next_gap word < 1280 → 1 ≤ get_or self.now.sizes.now (next_gap word) 0 → get_or self.now.starts (next_gap word) 0 + 1 < array_vec_len self.now.pieces) }
+        ensures { result ≡ code_for self.now.sizes.now self.now.starts self.now.pieces.items (next_gap word) }
+    {
+        let g = word.gap()?;
+        if self.sizes[g] == 0 {
+            return None;
         }
-        Word::Illegal => {
-            pieces[top] = w;
-            Next {
-                top: top + 1,
-                gap: gap,
-            }
+        let s = self.starts[g] as usize;
+        if self.pieces[s + 1] == STOP {
+            return Some(self.pieces[s]);
         }
+        Some(32768 + g as u16)
     }
 }
 
-// The first gap of the rule that a word calls; what calls none has a gap that no rule has.
-fn first_gap(w: u16) -> usize
-    ensures { result ≡ first_gap w }
+// Puts a piece, if there is one.
+fn put(pieces: &mut ArrayVec<u16, 16384>, piece: Option<u16>)
+    requires { IsSome piece → array_vec_len pieces.old < 16384 }
+    ensures { pieces.new.items ≡ pieces.old.items ++ option_to_list piece }
 {
-    match sort(w) {
-        Word::Call(j) => 5 * (j as usize),
-        Word::Parameter(_) => 1280,
-        Word::Empty => 1280,
-        Word::Label => 1280,
-        Word::Illegal => 1280,
+    if let Some(c) = piece {
+        pieces.push(c);
     }
-}
-
-// The gaps of rule r of n rules as pieces; says the place after them.
-fn spell(
-    file: &[u8],
-    n: usize,
-    table: &[u16],
-    r: usize,
-    sizes: &[u64],
-    pieces: &mut [u16],
-    starts: &mut [u16],
-    opens: &mut [u16],
-    top: usize,
-) -> usize
-    requires { Spelt file.now n r table.now sizes.now pieces.old starts.old top × (r < n) × (8192 ≤ length opens.old) }
-    ensures { Spelt file.now n (suc r) table.now sizes.now pieces.new starts.new result }
-{
-    let at = place(table, r);
-    let count = words(table, r);
-    let mut t = top;
-    let mut gap = 5 * r;
-    let mut depth: usize = 0;
-    let mut i: usize = 0;
-    starts[gap] = t as u16;
-    while i < count {
-        let w = word_at(file, at + 2 * i);
-        let k = rank_of(table, w, n);
-        let next = put_own(pieces, starts, w, t, gap);
-        opens[depth] = (2048 * (k + 1) + first_gap(w)) as u16;
-        t = next.top;
-        gap = next.gap;
-        let closed = close(sizes, starts, pieces, opens, t, depth + 1);
-        t = closed.top;
-        depth = closed.depth;
-        i += 1;
-    }
-    pieces[t] = STOP;
-    t + 1
-}
-
-// The gaps of all n rules as pieces, from the lowest rule up; says how many pieces there are.
-pub(crate) fn build(
-    file: &[u8],
-    n: usize,
-    table: &[u16],
-    sizes: &[u64],
-    pieces: &mut [u16],
-    starts: &mut [u16],
-    opens: &mut [u16],
-) -> usize
-    requires { Spelt file.now n 0 table.now sizes.now pieces.old starts.old 0 × (8192 ≤ length opens.old) }
-    ensures { Spelt file.now n n table.now sizes.now pieces.new starts.new result }
-{
-    let mut top: usize = 0;
-    let mut r: usize = 0;
-    while r < n {
-        top = spell(file, n, table, r, sizes, pieces, starts, opens, top);
-        r += 1;
-    }
-    top
 }
