@@ -137,23 +137,40 @@ impl<'a> GapStrings<'a> {
         }
     }
 
-    // A gap of `word`, the lowest open word, is due: puts it, and goes on upwards where it was the word's last.
+    // A gap of `word`, which is below all open words, is due: puts it, and goes on upwards where it was the word's last. A word that has more is open then.
     fn close(&mut self, word: Open, opens: &mut ArrayVec<Open, 8192>)
         requires { Closable self.old.sizes.now self.old.starts self.old.pieces.items (opens.old.items ++ word ∷ []) }
         ensures closes { Closes after self.old.starts self.old.sizes.now self.old.pieces.items (opens.old.items ++ word ∷ []) self.new.pieces.items opens.new.items }
         ensures starts_kept { self.new.starts ≡ self.old.starts }
         ensures sizes_kept { self.new.sizes.now ≡ self.old.sizes.now }
     {
-        let mut due = Some(word);
-        while let Some(lowest) = due {
-            let piece = self.piece_for(lowest);
-            put(&mut self.pieces, piece);
-            if let Some(next) = lowest.next() {
-                opens.push(next);
+        if let Some(rest) = self.put_gap(word) {
+            opens.push(rest);
+            return;
+        }
+        while let Some(lowest) = opens.last_mut() {
+            if let Some(rest) = self.put_gap(*lowest) {
+                *lowest = rest;
                 return;
             }
-            due = opens.pop();
+            opens.pop();
         }
+    }
+
+    // Puts the gap of an open word that is due; says what is due then, where it was not the word's last.
+    fn put_gap(&mut self, word: Open) -> Option<Open>
+        requires { (1280 ≤ length self.old.sizes.now) × (next_gap word < 2047)
+            × (next_gap word < 1280 → 1 ≤ get_or self.old.sizes.now (next_gap word) 0 → get_or self.old.starts (next_gap word) 0 + 1 < array_vec_len self.old.pieces)
+            × (IsSome (code_for self.old.sizes.now self.old.starts self.old.pieces.items (next_gap word)) → array_vec_len self.old.pieces < 16384) }
+        ensures rest { MatchOption result (due word ≤ 1) (λ e. (next_gap e ≡ suc (next_gap word)) × (suc (due e) ≡ due word) × (1 ≤ due e)) }
+        ensures put { self.new.pieces.items ≡ self.old.pieces.items ++ option_to_list (code_for self.old.sizes.now self.old.starts self.old.pieces.items (next_gap word)) }
+        ensures starts_kept { self.new.starts ≡ self.old.starts }
+        ensures sizes_kept { self.new.sizes.now ≡ self.old.sizes.now }
+    {
+        if let Some(c) = self.piece_for(word) {
+            self.pieces.push(c);
+        }
+        word.next()
     }
 
     // The piece to put for the next gap of an open word: none where the gap has no words; the gap's own piece where it has only one.
@@ -171,15 +188,5 @@ impl<'a> GapStrings<'a> {
             return Some(self.pieces[s]);
         }
         Some(32768 + g as u16)
-    }
-}
-
-// Puts a piece, if there is one.
-fn put(pieces: &mut ArrayVec<u16, 16384>, piece: Option<u16>)
-    requires { IsSome piece → array_vec_len pieces.old < 16384 }
-    ensures { pieces.new.items ≡ pieces.old.items ++ option_to_list piece }
-{
-    if let Some(c) = piece {
-        pieces.push(c);
     }
 }
