@@ -21,13 +21,15 @@ pub(crate) enum Piece {
     Stop,
 }
 
-pub(crate) fn sort_piece(c: u16) -> Piece
-    ensures { PieceIs result c }
-{
-    match c {
-        0..=32767 => Piece::Word(c),
-        STOP => Piece::Stop,
-        _ => Piece::Gap((c - 32768) as usize),
+impl From<u16> for Piece {
+    ghost from_gives = { λ c p. PieceIs p c };
+
+    fn from(c: u16) -> Piece {
+        match c {
+            0..=32767 => Piece::Word(c),
+            STOP => Piece::Stop,
+            _ => Piece::Gap((c - 32768) as usize),
+        }
     }
 }
 
