@@ -11,12 +11,12 @@ use lib.Seq.{take-suc, take-suc-set, take-length, take-append_seam}
 use Rattle.std.specs.List.{refill}
 use Rattle.arrayvec.proofs.ArrayVecLemmas.{items-with_items}
 use borrow.Author.Tests.{leb-true, leb-false, lt-leb, le-leb}
-use Rattle.std.specs.Prelude.{Option, Some, None, option_to_list, IfNone, IsSome, is_some}
+use Rattle.std.specs.Prelude.{Option, Some, None, option_to_list, IsSome, is_some}
 use Rattle.std.proofs.lemmas.List.Elements.{All-append, All-cons, All-nil, All-pop}
 use Rattle.std.proofs.lemmas.List.Sums.{sum_by-append, sum_by-cons}
 use Rattle.model.specs.Trees.{join}
 use Rattle.queries.specs.declared.pieces.Open.{Open}
-use Rattle.queries.specs.Pieces.{Part, Spelled, code_for, after, filling, due, next_gap, closing_over, closing, Entry, Entries, wanted, all_wanted, Closes, Closable, between}
+use Rattle.queries.specs.Pieces.{Part, Spelled, code_for, GapStands, after, filling, due, next_gap, closing_over, closing, Entry, Entries, wanted, all_wanted, Closes, Closable, between}
 use Rattle.queries.proofs.Spelling.{PieceFor, piece_for, part_nil, part_join, part_agree, part_put, code_none, append_agree, length_put, spelled_agree}
 
 pub after_ext : (f f' : List (List ℕ) → List ℕ) → ((ts : List (List ℕ)) → f' ts ≡ f ts) → (ts : List (List ℕ)) → after f' ts ≡ after f ts
@@ -256,7 +256,7 @@ module _ {S sizes P₀ P : List ℕ} {O₀ O₁ : List Open} (O : List Open) (e 
   turn_small = entry_small C.rules e C.few turn_entry
 
   module _ (S' sizes' : List ℕ) (starts_kept : S' ≡ S) (sizes_kept : sizes' ≡ sizes) where
-    pub turn_asks : (1280 ≤ length sizes') × (next_gap e < 1280 → 1 ≤ get_or sizes' (next_gap e) 0 → get_or S' (next_gap e) 0 + 1 < length P)
+    pub turn_asks : GapStands sizes' S' P (next_gap e)
     turn_asks = (
       omega (arith, C.wide, ap length sizes_kept),
       λ h k.

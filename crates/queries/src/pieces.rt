@@ -1,7 +1,7 @@
 // A grammar's bodies as gap strings.
-ghost use Rattle.std.specs.Prelude.{◌≡◌, ℕ, suc, ◌+◌, ◌*◌, ◌≤◌, ◌<◌, [], ◌∷◌, ◌++◌, length, get_or, IsSome, replicate, MatchOption, option_to_list};
+ghost use Rattle.std.specs.Prelude.{◌≡◌, ℕ, suc, ◌+◌, ◌*◌, ◌≤◌, ◌<◌, [], ◌∷◌, ◌++◌, length, IsSome, replicate, MatchOption, option_to_list};
 ghost use Rattle.arrayvec.specs.ArrayVec.{array_vec_len};
-ghost use Rattle.queries.specs.Pieces.{PieceIs, due, next_gap, code_for, after, Closes, Closable, first_gap, own, own_gap, own_starts};
+ghost use Rattle.queries.specs.Pieces.{PieceIs, due, next_gap, code_for, GapStands, after, Closes, Closable, first_gap, own, own_gap, own_starts};
 ghost use Rattle.queries.specs.Building.{Spelt};
 
 use arrayvec::ArrayVec;
@@ -13,7 +13,7 @@ use grammar::words::Word;
 // The piece that ends a gap.
 pub const STOP: u16 = 65535;
 
-// What a piece stands for: a word, the words of a gap, or the end of the gap that it is put in.
+// What a piece stands for: a word, the words of a gap, or the end of the gap that it is put in. Pieces are kept as 16-bit numbers, as memory is fixed.
 #[derive(Clone, Copy)]
 pub(crate) enum Piece {
     Word(u16),
@@ -33,8 +33,8 @@ impl From<u16> for Piece {
     }
 }
 
-// A word of a body that is open: how many of its gaps are still due, one or more, and the next of them. It is one number, 2048 times how many, and the next, which
-// is below 2048; what has no gaps has 1,280, which no rule has. Two fields would take twice the stack, and over 8,000 words may be open.
+// A word of a body that is open: how many of its gaps are still due, one or more, and the next of them. One number holds both, as over 8,000 words may be open and
+// memory is fixed: 2048 times how many, and the next, which is below 2048. What has no gaps has 1,280, which no rule has.
 #[derive(Clone, Copy, Default)]
 pub(crate) struct Open(u16);
 
@@ -161,8 +161,7 @@ impl<'a> GapStrings<'a> {
 
     // Puts the gap of an open word that is due; says what is due then, where it was not the word's last.
     fn put_gap(&mut self, word: Open) -> Option<Open>
-        requires { (1280 ≤ length self.old.sizes.now) × (next_gap word < 2047)
-            × (next_gap word < 1280 → 1 ≤ get_or self.old.sizes.now (next_gap word) 0 → get_or self.old.starts (next_gap word) 0 + 1 < array_vec_len self.old.pieces)
+        requires { (next_gap word < 2047) × GapStands self.old.sizes.now self.old.starts self.old.pieces.items (next_gap word)
             × (IsSome (code_for self.old.sizes.now self.old.starts self.old.pieces.items (next_gap word)) → array_vec_len self.old.pieces < 16384) }
         ensures rest { MatchOption result (due word ≤ 1) (λ e. (next_gap e ≡ suc (next_gap word)) × (suc (due e) ≡ due word) × (1 ≤ due e)) }
         ensures put { self.new.pieces.items ≡ self.old.pieces.items ++ option_to_list (code_for self.old.sizes.now self.old.starts self.old.pieces.items (next_gap word)) }
@@ -177,8 +176,7 @@ impl<'a> GapStrings<'a> {
 
     // The piece to put for the next gap of an open word: none where the gap has no words; the gap's own piece where it has only one.
     fn piece_for(&self, word: Open) -> Option<u16>
-        requires { (1280 ≤ length self.now.sizes.now)
-            × (next_gap word < 1280 → 1 ≤ get_or self.now.sizes.now (next_gap word) 0 → get_or self.now.starts (next_gap word) 0 + 1 < array_vec_len self.now.pieces) }
+        requires { GapStands self.now.sizes.now self.now.starts self.now.pieces.items (next_gap word) }
         ensures { result ≡ code_for self.now.sizes.now self.now.starts self.now.pieces.items (next_gap word) }
     {
         let g = word.gap()?;

@@ -16,7 +16,7 @@ pub(crate) fn walk(strings: &GapStrings, n: usize, p: u64, out: &mut [u16])
     let mut i = strings.starts[5 * (n - 1)] as usize;
     let mut skip = p;
     let mut o: usize = 0;
-    // No `for` over `out`: most pieces give no word.
+    // A turn gives a word or only moves on, so that a `for` over `out` would need a second loop in it.
     while o < out.len() {
         match Piece::from(strings.pieces[i]) {
             Piece::Word(w) => {

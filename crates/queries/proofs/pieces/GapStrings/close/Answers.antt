@@ -1,7 +1,6 @@
 -- `queries::pieces::GapStrings::close` meets its contract: gap by gap of the open words.
-use native.Mathlib.Omega.{arith}
 use Prim.Native.Nat.{◌-◌}
-use mathlib.Core.Path.{◌≡◌, refl, sym, ap, subst, ◌∙◌}
+use mathlib.Core.Path.{◌≡◌, refl, sym, subst, ◌∙◌}
 use mathlib.Core.List.{List, [], ◌∷◌, ◌++◌}
 use lib.ListN.{length, take}
 use Rattle.queries.specs.declared.pieces.Open.{Open}
@@ -13,8 +12,7 @@ use Rattle.queries.proofs.pieces.GapStrings.close.Goals as goal
 pub put_gap-requires : goal.put_gap-requires
 put_gap-requires c =
     let x = closes_start c.args.self.now.starts c.args.self.now.sizes.now c.args.self.now.pieces.items (c.args.opens.now.items ++ c.args.word ∷ []) in
-    let a = turn_asks _ _ c.requires x refl _ _ refl refl in
-    (a.0, turn_small _ _ c.requires x refl, a.1, turn_room _ _ c.requires x refl _ _ refl refl _ refl)
+    (turn_small _ _ c.requires x refl, turn_asks _ _ c.requires x refl _ _ refl refl, turn_room _ _ c.requires x refl _ _ refl refl _ refl)
 
 pub returns-in-Some-clause-closes : goal.returns-in-Some-clause-closes
 returns-in-Some-clause-closes c =
@@ -38,9 +36,11 @@ lowest c = lowest_last _ _ _ c.deref_mut.ensures.value c.in-Some-last_mut.ensure
 pub put_gap-requires-in-Some-last_mut : goal.put_gap-requires-in-Some-last_mut
 put_gap-requires-in-Some-last_mut c =
     let x = c.loop-lowest.invariant in
-    let l = lowest (goal.at.put_gap-requires-in-Some-last_mut c).In-Some-last_mut in
-    let a = turn_asks _ _ c.requires x.closes l _ _ x.starts_kept x.sizes_kept in
-    (a.0, turn_small _ _ c.requires x.closes l, a.1, turn_room _ _ c.requires x.closes l _ _ x.starts_kept x.sizes_kept _ refl)
+    let l = lowest (goal.at.put_gap-requires-in-Some-last_mut c).In-Some-last_mut in (
+      turn_small _ _ c.requires x.closes l,
+      turn_asks _ _ c.requires x.closes l _ _ x.starts_kept x.sizes_kept,
+      turn_room _ _ c.requires x.closes l _ _ x.starts_kept x.sizes_kept _ refl,
+    )
 
 pub returns-in-Some-put_gap-clause-closes : goal.returns-in-Some-put_gap-clause-closes
 returns-in-Some-put_gap-clause-closes c =
