@@ -30,7 +30,7 @@ pub(crate) fn put_reply<const N: usize>(q: Option<Question>, file: &[u8], out: &
         }
         Some(Question::Label(p)) => {
             let labelled = label(file, p);
-            put_numbered(labelled.answer, b"word ", labelled.word as u64, out);
+            put_numbered(labelled.answer, b"word ", u64::from(labelled.word), out);
         }
         Some(Question::Window(p, length)) => put_window(file, p, length, out),
         None => put(

@@ -17,20 +17,30 @@ fn other_byte(b: u8) -> u8
     b ^ 1
 }
 
-// A step of about 0.618 times 10^12, so that positions spread over a large tree and not over its first nodes alone.
-pub(crate) fn next_start(p: u64, starts: u64) -> u64
-    requires { 1 ≤ starts }
-    ensures { result ≡ next_start starts p }
-{
-    p.wrapping_add(618033988749) % starts
+// How many positions a call can be made at: at least one.
+#[derive(Clone, Copy)]
+pub struct Starts {
+    pub count: u64,
+    ghost some: { 1 ≤ count },
 }
 
-// How many positions a window of the given length can start at in a tree of so many nodes; 1 where there is none, so that the call is made and refused.
-pub(crate) fn starts_of(nodes: u64, length: u64) -> u64
-    requires { 1 ≤ length }
-    ensures { (result ≡ starts_of nodes length) × (1 ≤ result) }
-{
-    nodes.saturating_sub(length) + 1
+impl Starts {
+    // Those of a window of the given length in a tree of so many nodes; 1 where there is none, so that the call is made and refused.
+    pub(crate) fn of(nodes: u64, length: u64) -> Starts
+        requires { 1 ≤ length }
+        ensures { result.count ≡ starts_of nodes length }
+    {
+        Starts {
+            count: nodes.saturating_sub(length) + 1,
+        }
+    }
+
+    // The position after p. A step of about 0.618 times 10^12, so that positions spread over a large tree and not over its first nodes alone.
+    pub(crate) fn after(self, p: u64) -> u64
+        ensures { result ≡ next_start self.count p }
+    {
+        p.wrapping_add(618033988749) % self.count
+    }
 }
 
 // About half of a small tree, so that windows differ there too; at most 256 words.

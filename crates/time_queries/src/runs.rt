@@ -5,7 +5,7 @@ ghost use Rattle.time_queries.specs.Inputs.{varied, start_at};
 ghost use Rattle.time_queries.specs.Replies.{Reply as Replied, reply_is, checked_reply, counted_reply, label_reply, window_reply};
 ghost use Rattle.time_queries.specs.Runs.{tallies, tally_of, run_line};
 
-use crate::inputs::{flip, next_start, starts_of, window_length};
+use crate::inputs::{Starts, flip, window_length};
 use crate::tallies::{Reply, Tally};
 use crate::task::Task;
 use arrayvec::ArrayVec;
@@ -40,7 +40,7 @@ fn run(task: Task, file: &mut [u8], nodes: u64) -> Tally
         Operation::Label => {
             let file = &*file;
             run_at(
-                starts_of(nodes, 1),
+                Starts::of(nodes, 1),
                 task.times,
                 |p| Reply::from(label(file, p)),
             )
@@ -49,7 +49,7 @@ fn run(task: Task, file: &mut [u8], nodes: u64) -> Tally
             let file = &*file;
             let length = window_length(nodes);
             run_at(
-                starts_of(nodes, length as u64),
+                Starts::of(nodes, length as u64),
                 task.times,
                 |p| windowed(file, length, p),
             )
@@ -73,18 +73,17 @@ fn run_whole<F: Fn(&[u8]) -> Reply>(file: &mut [u8], times: u64, call: F) -> Tal
 }
 
 // Each call at another position.
-fn run_at<F: Fn(u64) -> Reply>(starts: u64, times: u64, call: F) -> Tally
+fn run_at<F: Fn(u64) -> Reply>(starts: Starts, times: u64, call: F) -> Tally
     ghost replies: { ℕ → Replied }
-    requires start { 1 ≤ starts }
     requires callable { F.IsAlwaysCallable call }
     requires replies { (p : ℕ) (r : _) → p < 2 ^ 64 → F.post call p r → reply_is r ≡ replies p }
-    ensures { result ≡ tallies (λ i. replies (start_at starts i)) times }
+    ensures { result ≡ tallies (λ i. replies (start_at starts.count i)) times }
 {
     let mut t = Tally::default();
     let mut p = 0;
     for _ in 0..times {
         t = t.with(call(p));
-        p = next_start(p, starts);
+        p = starts.after(p);
     }
     t
 }
@@ -103,9 +102,8 @@ fn windowed(file: &[u8], length: usize, p: u64) -> Reply
     }
 }
 
-// A window's words, added up.
 fn sum_of(words: &[u16]) -> u64
-    requires { length words.now ≤ 256 }
+    requires { length words.now ≤ 2 ^ 48 }
     ensures { result ≡ sum words.now }
 {
     words.iter().map(|w| u64::from(*w)).sum()

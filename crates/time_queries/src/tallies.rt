@@ -78,7 +78,7 @@ impl Tally {
         put(b" accepted ", out);
         put_decimal(self.accepted, out);
         put(b" sum ", out);
-        put_decimal(self.sum as u64, out);
+        put_decimal(u64::from(self.sum), out);
         put(b"\n", out);
     }
 }

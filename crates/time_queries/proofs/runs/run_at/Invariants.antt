@@ -5,4 +5,4 @@ use Rattle.time_queries.specs.Runs.{tallies}
 use Rattle.time_queries.proofs.runs.run_at.Given as goal
 
 abbrev pub invariant-loop : goal.invariant-loop
-invariant-loop g l = (l.p ≡ start_at l.starts l.counter) × (l.t ≡ tallies (λ i. g.replies (start_at l.starts i)) l.counter) × (l.t.accepted ≤ l.counter)
+invariant-loop g l = (l.p ≡ start_at l.starts.count l.counter) × (l.t ≡ tallies (λ i. g.replies (start_at l.starts.count i)) l.counter) × (l.t.accepted ≤ l.counter)
