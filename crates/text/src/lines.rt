@@ -1,4 +1,5 @@
 // Bytes put one after the other at the end of what was put before.
+// No `write!` of a `Display`: what it promises doesn't rule out an `Err` where the text fits (its `unwrap` stays open), and a line is put whole.
 ghost use Rattle.std.specs.Prelude.{◌≡◌, ◌+◌, ◌≤◌, ◌++◌, length};
 ghost use Rattle.arrayvec.specs.ArrayVec.{array_vec_len};
 

@@ -24,7 +24,7 @@ fn put_word<const N: usize>(w: u16, out: &mut ArrayVec<u8, N>)
     ensures len { array_vec_len out.new ≡ array_vec_len out.old + 4 }
 {
     let mut digits = [0u8; 16];
-    io::hex(w as u64, 4, &mut digits);
+    io::hex(u64::from(w), 4, &mut digits);
     put(&digits[..4], out);
 }
 
@@ -40,7 +40,7 @@ pub fn put_words<const N: usize>(words: &[u16], out: &mut ArrayVec<u8, N>)
     }
 }
 
-// What decimal text says: a number below 2^64. Digits alone, at least one.
+// What decimal text says: a number below 2^64. Digits alone, at least one; `parse` would take a sign too.
 #[tactic(auto, unfolding(crate::specs::Numbers::number_in))]
 pub fn read_decimal(text: &[u8]) -> Option<u64>
     ensures { result ≡ number_in text.now }
@@ -59,10 +59,8 @@ pub fn read_decimal(text: &[u8]) -> Option<u64>
 fn with_digit(n: u64, b: u8) -> Option<u64>
     ensures { result ≡ with_digit n b }
 {
-    if !b.is_ascii_digit() {
-        return None;
-    }
-    n.checked_mul(10)?.checked_add((b - b'0') as u64)
+    let digit = char::from(b).to_digit(10)?;
+    n.checked_mul(10)?.checked_add(u64::from(digit))
 }
 
 // What stands after word i of n.

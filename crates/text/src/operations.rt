@@ -14,18 +14,12 @@ impl Operation {
     pub fn named(name: &[u8]) -> Option<Operation>
         ensures { Named name.now result }
     {
-        if name == b"check".as_slice() {
-            return Some(Operation::Check);
+        match name {
+            b"check" => Some(Operation::Check),
+            b"count" => Some(Operation::Count),
+            b"label" => Some(Operation::Label),
+            b"window" => Some(Operation::Window),
+            _ => None,
         }
-        if name == b"count".as_slice() {
-            return Some(Operation::Count);
-        }
-        if name == b"label".as_slice() {
-            return Some(Operation::Label);
-        }
-        if name == b"window".as_slice() {
-            return Some(Operation::Window);
-        }
-        None
     }
 }

@@ -12,7 +12,7 @@ pub(crate) fn number(x: Refusal) -> usize
     x as usize
 }
 
-// The name of the table's second column.
+// The name of the table's second column, in bytes, as lines are put.
 pub(crate) fn name(x: Refusal) -> &'static [u8]
     ensures { (result.now ≡ name_of (refusal_is x)) × (length result.now ≤ 12) }
 {
