@@ -6,14 +6,17 @@ use mathlib.Core.Path.{◌≡◌, refl, sym, ap, ap₂, subst, ◌∙◌}
 use mathlib.Core.Bool.{Bool, true, false}
 use mathlib.Core.List.{List, [], ◌∷◌, ◌++◌, append_assoc, append-nil}
 use lib.Dec.{leb}
-use lib.ListN.{length, take, drop, get_or, length-append}
+use lib.ListN.{length, take, drop, get_or, set, length-set, length-append}
+use lib.Seq.{take-suc, take-suc-set, take-length, take-append_seam}
+use Rattle.std.specs.List.{refill}
+use Rattle.arrayvec.proofs.ArrayVecLemmas.{items-with_items}
 use borrow.Author.Tests.{leb-true, leb-false, lt-leb, le-leb}
-use Rattle.std.specs.Prelude.{Option, Some, None, option_to_list, IfNone, IsSome, is_some}
+use Rattle.std.specs.Prelude.{Option, Some, None, option_to_list, IsSome, is_some}
 use Rattle.std.proofs.lemmas.List.Elements.{All-append, All-cons, All-nil, All-pop}
 use Rattle.std.proofs.lemmas.List.Sums.{sum_by-append, sum_by-cons}
 use Rattle.model.specs.Trees.{join}
 use Rattle.queries.specs.declared.pieces.Open.{Open}
-use Rattle.queries.specs.Pieces.{Part, Spelled, code_for, after, filling, due, next_gap, closing_over, closing, Entry, Entries, wanted, all_wanted, Closes, Closable, between}
+use Rattle.queries.specs.Pieces.{Part, Spelled, code_for, GapStands, after, filling, due, next_gap, closing_over, closing, Entry, Entries, wanted, all_wanted, Closes, Closable, between}
 use Rattle.queries.proofs.Spelling.{PieceFor, piece_for, part_nil, part_join, part_agree, part_put, code_none, append_agree, length_put, spelled_agree}
 
 pub after_ext : (f f' : List (List ℕ) → List ℕ) → ((ts : List (List ℕ)) → f' ts ≡ f ts) → (ts : List (List ℕ)) → after f' ts ≡ after f ts
@@ -197,18 +200,42 @@ module _ {S sizes P₀ P : List ℕ} {O₀ : List Open} (O : List Open) (e : Ope
             );
       }
 
--- the open words once one was taken, if there was one: none where there was none
-pub all_taken : (O O' : List Open) (o : Option Open) → O ≡ O' ++ option_to_list o → (0 < length O → IsSome o) → IfNone o (O' ≡ [])
-all_taken O O' (Some e) was some = tt
-all_taken [] O' None was some = sym (was ∙ append-nil O')
-all_taken (e ∷ O) O' None was some = let f : false ≡ true = some (omega arith) in let z : ⊥ = cc in absurd z
+-- a vector whose elements were lent has what was put in their place
+refilled : (O D : List Open) → length D ≡ length O → refill (length O) O D ≡ D
+refilled O D h = items-with_items (record { items = O }) D h
 
 -- nothing is open any more
-pub turn_over : {S sizes P₀ P : List ℕ} {O₀ : List Open} (O : List Open) (o : Option Open) → o ≡ None → IfNone o (O ≡ []) → Closes Now S sizes P₀ O₀ P (O ++ option_to_list o) → Closes after S sizes P₀ O₀ P O
-turn_over {S} {sizes} {P₀} {P} {O₀} O o e open_none x =
-    let none : O ≡ [] = subst (λ (v : Option Open). IfNone v (O ≡ [])) e open_none in
-    let last : O ++ option_to_list o ≡ [] = ap (λ (v : Option Open). O ++ option_to_list v) e ∙ append-nil O ∙ none in
-    subst (λ (os : List Open). Closes after S sizes P₀ O₀ P os) (sym none) (closes_end (subst (λ (os : List Open). Closes Now S sizes P₀ O₀ P os) last x))
+pub turn_over : {S sizes P₀ P : List ℕ} {O₀ : List Open} (O D : List Open) → D ≡ O → length D ≤ 0 → Closes Now S sizes P₀ O₀ P O → Closes after S sizes P₀ O₀ P (refill (length O) O D)
+turn_over {S} {sizes} {P₀} {P} {O₀} [] D same none x =
+    subst (λ (os : List Open). Closes after S sizes P₀ O₀ P os) (sym (refilled [] D (ap length same) ∙ same)) (closes_end x)
+turn_over (e ∷ O) D same none x = absurd (omega (arith, ap length same))
+
+-- the lowest of the open words O is e, as it is lent: what it leaves of them changed, and taken
+module _ (O D : List Open) (e : Open) (same : D ≡ O) (some : 0 < length D) (last : e ≡ get_or D (length D - 1) e) where
+  as_many : length D ≡ length O
+  as_many = ap length same
+
+  one_more : suc (length O - 1) ≡ length O
+  one_more = omega (arith, as_many)
+
+  pub lowest_last : O ≡ take (length O - 1) O ++ e ∷ []
+  lowest_last =
+      sym (take-length O) ∙ ap (λ (k : ℕ). take k O) (sym one_more) ∙ take-suc O (length O - 1) e (omega (arith, as_many))
+      ∙ ap (λ (v : Open). take (length O - 1) O ++ v ∷ []) (ap (λ (os : List Open). get_or os (length os - 1) e) (sym same) ∙ sym last)
+
+  pub lowest_changed : (e' : Open) → refill (length O) O (set D (length D - 1) e') ≡ take (length O - 1) O ++ e' ∷ []
+  lowest_changed e' =
+      refilled O (set D (length D - 1) e') (length-set D (length D - 1) e' ∙ as_many)
+      ∙ ap (λ (os : List Open). set os (length os - 1) e') same
+      ∙ sym (take-length (set O (length O - 1) e'))
+      ∙ ap (λ (k : ℕ). take k (set O (length O - 1) e')) (length-set O (length O - 1) e' ∙ sym one_more)
+      ∙ take-suc-set O (length O - 1) e' (omega (arith, as_many))
+
+  pub lowest_taken : (O' : List Open) → O' ≡ take (length (refill (length O) O (set D (length D - 1) e)) - 1) (refill (length O) O (set D (length D - 1) e)) → O' ≡ take (length O - 1) O
+  lowest_taken O' t =
+      let F = take (length O - 1) O in
+      let k : length (F ++ e ∷ []) - 1 ≡ length F = omega (arith, length_open F e) in
+      t ∙ ap (λ (os : List Open). take (length os - 1) os) (lowest_changed e) ∙ ap (λ (n : ℕ). take n (F ++ e ∷ [])) k ∙ take-append_seam F (e ∷ [])
 
 -- a turn in the values that the code has: what it asks, by what closing asks, and what it leaves
 module _ {S sizes P₀ P : List ℕ} {O₀ O₁ : List Open} (O : List Open) (e : Open) (C : Closable sizes S P₀ O₀) (x : Closes Now S sizes P₀ O₀ P O₁) (was : O₁ ≡ O ++ e ∷ []) where
@@ -229,7 +256,7 @@ module _ {S sizes P₀ P : List ℕ} {O₀ O₁ : List Open} (O : List Open) (e 
   turn_small = entry_small C.rules e C.few turn_entry
 
   module _ (S' sizes' : List ℕ) (starts_kept : S' ≡ S) (sizes_kept : sizes' ≡ sizes) where
-    pub turn_asks : (1280 ≤ length sizes') × (next_gap e < 1280 → 1 ≤ get_or sizes' (next_gap e) 0 → get_or S' (next_gap e) 0 + 1 < length P)
+    pub turn_asks : GapStands sizes' S' P (next_gap e)
     turn_asks = (
       omega (arith, C.wide, ap length sizes_kept),
       λ h k.

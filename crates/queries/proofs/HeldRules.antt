@@ -14,7 +14,6 @@ use Rattle.laws.specs.Sums.{sum_of}
 use Rattle.laws.proofs.Trees.Fills.{length_parameters_from}
 use Rattle.laws.proofs.Trees.Grown.{grown_word}
 use Rattle.laws.proofs.Trees.Grammar.{rule_of, formed_env, expansions_solve, expansion_tree}
-use Rattle.laws.proofs.Trees.Grammar as grammar
 use Rattle.grammar.specs.declared.rules.Entry.{Entry}
 use Rattle.grammar.specs.Meaning.{entries, Bodies, place_after, padded, ranks_in, no_rule}
 use Rattle.model.specs.File.{words_in}
@@ -106,11 +105,7 @@ module _ {file : List ℕ} {table : List Entry} {sizes : List ℕ} (D : Denotes 
   ranks_are = denoted.ranks_are H
 
   pub small_ranks : (j : ℕ) → get_or (ranks_of R) j 0 ≤ 4
-  small_ranks j = go (ltb j (length R)) refl
-    where
-      go : (b : Bool) → ltb j (length R) ≡ b → get_or (ranks_of R) j 0 ≤ 4
-      go true e = (rule_of R H.is_formed j (omega (arith, ltb-true j (length R) e))).rank_small
-      go false e = omega (arith, get_or-eq_default (ranks_of R) 0 {n = j} (omega (arith, grammar.length_ranks R, ltb-false j (length R) e)))
+  small_ranks j = omega (arith, denoted.ranks_few H j, ap (λ (l : List ℕ). get_or l j 0) ranks_are)
 
   pub grown : (j : ℕ) → T (all grown_word (get_or E j []))
   grown j = go (ltb j (length R)) refl

@@ -1,7 +1,6 @@
 -- The turns over the body of a rule of a file, in the numbers that the code has.
 use Prim.Native.Nat.{ℕ, suc, ◌+◌, ◌*◌, ◌/◌, ◌≤◌, ◌<◌}
 use native.Mathlib.Omega.{arith}
-use native.Mathlib.Numerals.{add-one}
 use mathlib.Core.Path.{◌≡◌, sym, ap, ap₂, subst, ◌∙◌}
 use mathlib.Core.List.{List, [], ◌∷◌, ◌++◌, map}
 use lib.ListN.{length, take, drop, get_or, set}
@@ -13,11 +12,13 @@ use Rattle.grammar.specs.Meaning.{word_in, ranks_in, no_rule}
 use Rattle.model.specs.File.{words_in}
 use Rattle.grammar.specs.Measures.{Denotes}
 use Rattle.grammar.proofs.BodyWords.{body_rest}
+use Rattle.grammar.proofs.Denoted.{ranks_few}
+use Rattle.grammar.proofs.Due as due_trees
 use Rattle.queries.specs.declared.pieces.Open.{Open}
 use Rattle.queries.specs.Pieces.{stop, stopped, Spelled, after, due, next_gap, Closes, Closable, first_gap, own, own_gap, own_starts}
 use Rattle.queries.specs.Building.{rules_of, gaps_of, Spelt}
 use Rattle.queries.proofs.HeldRules.{rules_few, words_are, rule_body, rule_within, rule_next, ranks_are, small_ranks, gap_measured, rule_expansion, rule_gaps, body_legal, body_fits, body_room, body_parameters}
-use Rattle.queries.proofs.SpellRule.{Turn, put_fits, start_fits, open_fits, first_fits, closable, turned, turn_start, end_fits, rule_done, rank_four}
+use Rattle.queries.proofs.SpellRule.{Turn, put_fits, start_fits, first_fits, closable, turned, turn_start, end_fits, rule_done}
 
 -- rule r, next to be spelled: the bytes of its body, and that there is room for its pieces after `top` others
 pub record Body (file : List ℕ) (r : ℕ) (rules : List Entry) (sizes : List ℕ) (top : ℕ) (bytes : List ℕ) : Type 0 where
@@ -72,9 +73,6 @@ module _ {file : List ℕ} {r : ℕ} {rules : List Entry} {sizes : List ℕ} {to
       pub gap_fits : (gap < 1280) × (own_gap w gap < 1280)
       gap_fits = start_fits (small_ranks H) rule_low room (rule_gaps H r) H.longer x w this
 
-      pub opens_fit : length O < 8192
-      opens_fit = open_fits (small_ranks H) rule_low room (rule_gaps H r) H.longer x w this
-
       pub first_low : first_gap w ≤ 1280
       first_low = first_fits (small_ranks H) rule_low room (rule_gaps H r) H.longer x w this
 
@@ -83,7 +81,7 @@ module _ {file : List ℕ} {r : ℕ} {rules : List Entry} {sizes : List ℕ} {to
         rank_is = ke ∙ ap (λ (l : List ℕ). rank_of l w) (ranks_are H)
 
         pub rank_small : k ≤ 4
-        rank_small = omega (arith, rank_is, rank_four (ranks_of (rules_of file)) (small_ranks H) w)
+        rank_small = omega (arith, ke, due_trees.rank_small rules (ranks_few H) w)
 
         module _ (e : Open) (de : due e ≡ k + 1) (ge : next_gap e ≡ first_gap w) where
           due_is : due e ≡ suc (rank_of (ranks_of (rules_of file)) w)
@@ -134,6 +132,3 @@ module _ {file : List ℕ} {r : ℕ} {rules : List Entry} {sizes : List ℕ} {to
             room = λ h. omega (arith, d.2, b.follows, words_are H r b.below, rule_next H r b.below h);
             fits = omega (arith, d.2, room);
           }))
-
-pub one_more : {file : List ℕ} {r : ℕ} {rules : List Entry} {sizes P S : List ℕ} → Spelt file (suc r) rules sizes P S → Spelt file (r + 1) rules sizes P S
-one_more {file} {r} {rules} {sizes} {P} {S} s = subst (λ (k : ℕ). Spelt file k rules sizes P S) (sym (add-one r)) s

@@ -9,7 +9,7 @@ use lib.Dec.{T}
 use lib.ListN.{length, drop, get_or, set, length-set, length-drop, drop_of_length-le}
 use lib.Seq.{get_or-set_same, get_or-set_other}
 use Rattle.std.proofs.lemmas.List.Elements.{All-nil}
-use Rattle.model.specs.Words.{Class, empty, label, parameter, call, illegal, class_of, rank_of, is_parameter}
+use Rattle.model.specs.Words.{rank_of, is_parameter}
 use Rattle.model.specs.Trees.{all, those, is_legal, fold, join}
 use Rattle.laws.specs.Formed.{Fits}
 use Rattle.laws.specs.Sums.{sum_of}
@@ -53,16 +53,6 @@ slice_low {G} {r} {top} {P} {S} {sizes} x g h k = go s s.part.codes s.part.ends 
     go : (y : Slice G P (g / 5) (get_or S g 0) top (G g)) → (cs : List ℕ) → get_or S g 0 + length cs ≡ y.end → spelled G cs ≡ G g → get_or S g 0 + 1 < top
     go y [] e m = absurd (omega (arith, some, ap length m))
     go y (c ∷ cs) e m = omega (arith, y.below)
-
-pub rank_four : (ranks : List ℕ) → ((j : ℕ) → get_or ranks j 0 ≤ 4) → (w : ℕ) → rank_of ranks w ≤ 4
-rank_four ranks small w = go (class_of w) refl
-  where
-    go : (c : Class) → class_of w ≡ c → rank_of ranks w ≤ 4
-    go empty e = simp e (omega arith)
-    go label e = simp e (omega arith)
-    go (parameter n) e = simp e (omega arith)
-    go (call j) e = simp e (small j)
-    go illegal e = simp e (omega arith)
 
 module _ {G : ℕ → List ℕ} {ranks X body : List ℕ} {r top₀ : ℕ} {sizes : List ℕ}
     (small : (j : ℕ) → get_or ranks j 0 ≤ 4) (low_rule : r < 256) (all_room : top₀ + 2 * length body + 18 ≤ 16384)

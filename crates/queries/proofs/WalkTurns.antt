@@ -5,8 +5,8 @@ use native.Mathlib.Numerals.{add-one}
 use mathlib.Core.Path.{◌≡◌, refl, sym, ap, ap₂, subst, ◌∙◌}
 use mathlib.Core.List.{List, [], ◌∷◌, ◌++◌}
 use lib.ListN.{length, take, drop, get_or, set, length-set, length-drop}
-use lib.Seq.{get_or-append_seam, take-suc, take-suc-set, get_or-drop, take-length}
-use Rattle.queries.specs.Pieces.{stop, Spelled, Walkable, Walked}
+use lib.Seq.{get_or-append_seam, take-suc, take-suc-set, get_or-drop}
+use Rattle.queries.specs.Pieces.{stop, Spelled, Walkable}
 use Rattle.queries.proofs.Spelling.{Agree, append_agree, length_put}
 use Rattle.queries.proofs.Walking.{Walking, View, ended, on, view, place_below, walking_start, walk_pop, walk_word, walk_past, walk_over, walk_into, walking_agree, walk_cost, pile_cost_agree, cost_pop, cost_on, cost_into}
 
@@ -101,9 +101,6 @@ module _ {P S sizes : List ℕ} {n p many : ℕ} (W : Walkable P S sizes n p man
       pub gap_low : g < 5 * n
       gap_low = omega (arith, (turn_gap l u).0)
 
-      pub frame_fits : length Fr < 256
-      frame_fits = omega (arith, (turn_gap l u).1, W.few_rules)
-
       pub turn_over : get_or sizes g 0 ≤ skip → Walk P S sizes n p many Fr (i + 1) (skip - get_or sizes g 0) o out
       turn_over k =
           passed (skip - get_or sizes g 0) (λ G top s w.
@@ -182,8 +179,3 @@ module _ {P S sizes : List ℕ} {n p many : ℕ} (W : Walkable P S sizes n p man
           subst (λ (k : ℕ). walk_cost P S n Fr v k < walk_cost P S n Fr i (length Fr)) one_less
           (subst (λ (j : ℕ). walk_cost P S n Fr j (length Fr - 1) < walk_cost P S n Fr i (length Fr)) there (cost_pop P S n Fr i (length Fr) turn_place e (turn_deep e))) in
           omega (arith, pile_cost_agree P S n Fr Fr' (length Fr') agree)
-
-  pub walk_end : {Fr out : List ℕ} {i skip o : ℕ} → Walk P S sizes n p many Fr i skip o out → many ≤ o → Walked P S sizes n p out
-  walk_end {Fr} {out} {i} {skip} {o} x h G top s t =
-      let e : o ≡ length out = omega (arith, x.within, x.out_length) in
-      sym (take-length out) ∙ ap (λ (k : ℕ). take k out) (sym e) ∙ (x.shows G top s t).1 ∙ ap (λ (k : ℕ). take k (drop p (G (5 * (n - 1))))) e

@@ -13,16 +13,10 @@ use Rattle.laws.proofs.Words.Lists.{all_cons, map_take, map_drop}
 use Rattle.laws.proofs.Trees.Grown.{grown_word}
 use Rattle.laws.proofs.Trees.Fills.{those_in, those_out, in_order, length_parameters_from}
 use Rattle.laws.proofs.Trees.Expansion.{weave, fill_weave}
+use Rattle.laws.proofs.Trees.Spread.{map_join}
+use Rattle.std.proofs.lemmas.List.{map-append}
 use Rattle.queries.specs.Pieces.{stopped, unstopped, up_to, past, past_all, gap_of, between, over}
 use Rattle.queries.proofs.Stops.{Kind, param, word, kind, up_to_on, past_on, past_past_all, small_unstopped, gap_at}
-
-map_append : (f : ℕ → ℕ) (xs ys : List ℕ) → map f (xs ++ ys) ≡ map f xs ++ map f ys
-map_append f [] ys = refl
-map_append f (x ∷ xs) ys = ap (λ l. f x ∷ l) (map_append f xs ys)
-
-map_join : (f : ℕ → ℕ) (ts : List (List ℕ)) → map f (join ts) ≡ join (map (map f) ts)
-map_join f [] = refl
-map_join f (t ∷ ts) = map_append f t (join ts) ∙ ap (λ l. map f t ++ l) (map_join f ts)
 
 -- words with k stops, and trees at the stops
 abbrev woven : List ℕ → ℕ → List (List ℕ) → List ℕ
@@ -42,7 +36,7 @@ weave_woven ts (w ∷ ws) t = go (kind w (all_cons grown_word w ws t).0) (λ ts.
         → map stopped (weave (λ v. v) ts (w ∷ ws)) ≡ woven (map stopped (w ∷ ws)) (length (those is_parameter (w ∷ ws))) (map (map stopped) ts)
     go (param e f) rec =
         let x : weave (λ v. v) ts (w ∷ ws) ≡ get_or ts 0 [] ++ weave (λ v. v) (drop 1 ts) ws = rw (e, weave) in
-        ap (map stopped) x ∙ map_append stopped (get_or ts 0 []) (weave (λ v. v) (drop 1 ts) ws)
+        ap (map stopped) x ∙ map-append stopped (get_or ts 0 []) (weave (λ v. v) (drop 1 ts) ws)
         ∙ ap₂ (λ l m. l ++ m) (sym (get_or-map (map stopped) ts 0 [])) (rec (drop 1 ts) ∙ ap (woven (map stopped ws) (length (those is_parameter ws))) (map_drop (map stopped) 1 ts))
         ∙ ap₂ (λ v k. woven (v ∷ map stopped ws) k (map (map stopped) ts)) (sym f) (ap length (sym (those_in is_parameter w ws e)))
     go (word e f h) rec =

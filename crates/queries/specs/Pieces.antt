@@ -86,6 +86,10 @@ code_for sizes starts pieces g =
       ]
     ]
 
+-- what that asks: the gap's size is in the table, and where it has words its pieces stand
+abbrev pub GapStands : List ℕ → List ℕ → List ℕ → ℕ → Type 0
+GapStands sizes starts pieces g = (1280 ≤ length sizes) × (g < 1280 → 1 ≤ get_or sizes g 0 → get_or starts g 0 + 1 < length pieces)
+
 -- what follows where the next of the trees is due: the tree, then f of the others
 abbrev pub after : (List (List ℕ) → List ℕ) → List (List ℕ) → List ℕ
 after f [] = []

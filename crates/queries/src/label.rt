@@ -6,8 +6,8 @@ ghost use Rattle.queries.specs.Labels.{label_is};
 use crate::window::window;
 use grammar::refusals::Answer;
 
-// An answer with the word.
-#[derive(Clone, Copy)]
+// An answer with the word. Kept beside the answer and not in a Result: document 01 has FFFF for a refused label, which `label` promises.
+#[derive(Clone, Copy, PartialEq, Eq)]
 pub struct Labelled {
     pub answer: Answer,
     pub word: u16,

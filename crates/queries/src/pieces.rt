@@ -1,7 +1,7 @@
 // A grammar's bodies as gap strings.
-ghost use Rattle.std.specs.Prelude.{◌≡◌, ℕ, suc, ◌+◌, ◌*◌, ◌≤◌, ◌<◌, [], ◌∷◌, ◌++◌, length, get_or, IsSome, replicate, MatchOption, option_to_list};
+ghost use Rattle.std.specs.Prelude.{◌≡◌, ℕ, suc, ◌+◌, ◌*◌, ◌≤◌, ◌<◌, [], ◌∷◌, ◌++◌, length, IsSome, replicate, MatchOption, option_to_list};
 ghost use Rattle.arrayvec.specs.ArrayVec.{array_vec_len};
-ghost use Rattle.queries.specs.Pieces.{PieceIs, due, next_gap, code_for, after, Closes, Closable, first_gap, own, own_gap, own_starts};
+ghost use Rattle.queries.specs.Pieces.{PieceIs, due, next_gap, code_for, GapStands, after, Closes, Closable, first_gap, own, own_gap, own_starts};
 ghost use Rattle.queries.specs.Building.{Spelt};
 
 use arrayvec::ArrayVec;
@@ -13,7 +13,7 @@ use grammar::words::Word;
 // The piece that ends a gap.
 pub const STOP: u16 = 65535;
 
-// What a piece stands for: a word, the words of a gap, or the end of the gap that it is put in.
+// What a piece stands for: a word, the words of a gap, or the end of the gap that it is put in. Pieces are kept as 16-bit numbers, as memory is fixed.
 #[derive(Clone, Copy)]
 pub(crate) enum Piece {
     Word(u16),
@@ -21,18 +21,20 @@ pub(crate) enum Piece {
     Stop,
 }
 
-pub(crate) fn sort_piece(c: u16) -> Piece
-    ensures { PieceIs result c }
-{
-    match c {
-        0..=32767 => Piece::Word(c),
-        STOP => Piece::Stop,
-        _ => Piece::Gap((c - 32768) as usize),
+impl From<u16> for Piece {
+    ghost from_gives = { λ c p. PieceIs p c };
+
+    fn from(c: u16) -> Piece {
+        match c {
+            0..=32767 => Piece::Word(c),
+            STOP => Piece::Stop,
+            _ => Piece::Gap((c - 32768) as usize),
+        }
     }
 }
 
-// A word of a body that is open: how many of its gaps are still due, one or more, and the next of them. It is one number, 2048 times how many, and the next, which
-// is below 2048; what has no gaps has 1,280, which no rule has. Two fields would take twice the stack, and over 8,000 words may be open.
+// A word of a body that is open: how many of its gaps are still due, one or more, and the next of them. One number holds both, as over 8,000 words may be open and
+// memory is fixed: 2048 times how many, and the next, which is below 2048. What has no gaps has 1,280, which no rule has.
 #[derive(Clone, Copy, Default)]
 pub(crate) struct Open(u16);
 
@@ -137,29 +139,44 @@ impl<'a> GapStrings<'a> {
         }
     }
 
-    // A gap of `word`, the lowest open word, is due: puts it, and goes on upwards where it was the word's last.
+    // A gap of `word`, which is below all open words, is due: puts it, and goes on upwards where it was the word's last. A word that has more is open then.
     fn close(&mut self, word: Open, opens: &mut ArrayVec<Open, 8192>)
         requires { Closable self.old.sizes.now self.old.starts self.old.pieces.items (opens.old.items ++ word ∷ []) }
         ensures closes { Closes after self.old.starts self.old.sizes.now self.old.pieces.items (opens.old.items ++ word ∷ []) self.new.pieces.items opens.new.items }
         ensures starts_kept { self.new.starts ≡ self.old.starts }
         ensures sizes_kept { self.new.sizes.now ≡ self.old.sizes.now }
     {
-        let mut due = Some(word);
-        while let Some(lowest) = due {
-            let piece = self.piece_for(lowest);
-            put(&mut self.pieces, piece);
-            if let Some(next) = lowest.next() {
-                opens.push(next);
+        if let Some(rest) = self.put_gap(word) {
+            opens.push(rest);
+            return;
+        }
+        while let Some(lowest) = opens.last_mut() {
+            if let Some(rest) = self.put_gap(*lowest) {
+                *lowest = rest;
                 return;
             }
-            due = opens.pop();
+            opens.pop();
         }
+    }
+
+    // Puts the gap of an open word that is due; says what is due then, where it was not the word's last.
+    fn put_gap(&mut self, word: Open) -> Option<Open>
+        requires { (next_gap word < 2047) × GapStands self.old.sizes.now self.old.starts self.old.pieces.items (next_gap word)
+            × (IsSome (code_for self.old.sizes.now self.old.starts self.old.pieces.items (next_gap word)) → array_vec_len self.old.pieces < 16384) }
+        ensures rest { MatchOption result (due word ≤ 1) (λ e. (next_gap e ≡ suc (next_gap word)) × (suc (due e) ≡ due word) × (1 ≤ due e)) }
+        ensures put { self.new.pieces.items ≡ self.old.pieces.items ++ option_to_list (code_for self.old.sizes.now self.old.starts self.old.pieces.items (next_gap word)) }
+        ensures starts_kept { self.new.starts ≡ self.old.starts }
+        ensures sizes_kept { self.new.sizes.now ≡ self.old.sizes.now }
+    {
+        if let Some(c) = self.piece_for(word) {
+            self.pieces.push(c);
+        }
+        word.next()
     }
 
     // The piece to put for the next gap of an open word: none where the gap has no words; the gap's own piece where it has only one.
     fn piece_for(&self, word: Open) -> Option<u16>
-        requires { (1280 ≤ length self.now.sizes.now)
-            × (next_gap word < 1280 → 1 ≤ get_or self.now.sizes.now (next_gap word) 0 → get_or self.now.starts (next_gap word) 0 + 1 < array_vec_len self.now.pieces) }
+        requires { GapStands self.now.sizes.now self.now.starts self.now.pieces.items (next_gap word) }
         ensures { result ≡ code_for self.now.sizes.now self.now.starts self.now.pieces.items (next_gap word) }
     {
         let g = word.gap()?;
@@ -171,15 +188,5 @@ impl<'a> GapStrings<'a> {
             return Some(self.pieces[s]);
         }
         Some(32768 + g as u16)
-    }
-}
-
-// Puts a piece, if there is one.
-fn put(pieces: &mut ArrayVec<u16, 16384>, piece: Option<u16>)
-    requires { IsSome piece → array_vec_len pieces.old < 16384 }
-    ensures { pieces.new.items ≡ pieces.old.items ++ option_to_list piece }
-{
-    if let Some(c) = piece {
-        pieces.push(c);
     }
 }

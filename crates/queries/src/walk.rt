@@ -2,7 +2,7 @@
 ghost use Rattle.std.specs.Prelude.{length, ◌≡◌};
 ghost use Rattle.queries.specs.Pieces.{Walkable, Walked};
 
-use crate::pieces::{GapStrings, Piece, sort_piece};
+use crate::pieces::{GapStrings, Piece};
 use arrayvec::ArrayVec;
 
 // Fills `out` with the words of the start rule, of n rules, from p on. A gap that ends before p is passed at one step; one that is gone into leaves a place to
@@ -16,9 +16,9 @@ pub(crate) fn walk(strings: &GapStrings, n: usize, p: u64, out: &mut [u16])
     let mut i = strings.starts[5 * (n - 1)] as usize;
     let mut skip = p;
     let mut o: usize = 0;
-    // No `for` over `out`: most pieces give no word.
+    // A turn gives a word or only moves on, so that a `for` over `out` would need a second loop in it.
     while o < out.len() {
-        match sort_piece(strings.pieces[i]) {
+        match Piece::from(strings.pieces[i]) {
             Piece::Word(w) => {
                 i += 1;
                 if skip == 0 {

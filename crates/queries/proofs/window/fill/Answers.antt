@@ -21,12 +21,6 @@ returns-in_err-n-clause-answer c =
     let x = c.in_err-n.field-0.0 in
     rw (p.1, p.2) (answer_refused c.args.file.now c.args.p _ x (sym (ap reading_is c.in_err-n.was) ∙ c.read.ensures.reading)).0
 
-pub returns-in_err-n-clause-words : goal.returns-in_err-n-clause-words
-returns-in_err-n-clause-words c =
-    let p = err_from_is_err_and c.from_residual.result c.from_residual.ensures.1 in
-    let x = c.in_err-n.field-0.0 in
-    rw p.1 (answer_refused c.args.file.now c.args.p _ x (sym (ap reading_is c.in_err-n.was) ∙ c.read.ensures.reading)).1
-
 -- a file that is taken denotes a grammar of so many rules
 module _ (c : In_ok-n) where
   denoted : Denotes c.args.file.now (take c.in_ok-n.n c.read.new.table) c.read.new.sizes
@@ -82,8 +76,3 @@ pub returns-clause-answer : goal.returns-clause-answer
 returns-clause-answer c =
     let at = goal.at.returns-clause-answer c in
     (answer_inside (denoted at.In_ok-n) c.args.p _ (omega (arith, counted at.In_ok-n _ c.first_gaps-nodes.ensures.0)) c.in_ok-n.n _ c.expand.ensures).0
-
-pub returns-clause-words : goal.returns-clause-words
-returns-clause-words c =
-    let at = goal.at.returns-clause-words c in
-    (answer_inside (denoted at.In_ok-n) c.args.p _ (omega (arith, counted at.In_ok-n _ c.first_gaps-nodes.ensures.0)) c.in_ok-n.n _ c.expand.ensures).1
