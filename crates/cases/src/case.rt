@@ -29,7 +29,7 @@ impl From<u16> for Kind {
 }
 
 // A case with its payload, of at most N bytes.
-#[derive(Drop)]
+#[derive(Clone, Drop)]
 pub struct Case<const N: usize> {
     pub kind: Kind,
     pub payload: ArrayVec<u8, N>,

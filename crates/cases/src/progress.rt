@@ -7,7 +7,7 @@ use crate::records::{Found, next};
 
 // The length of the file asked about, the case at hand, which is none before the first and at the data's end, how many cases there were and how
 // many of them were answered wrong. `length` stands beside no buffer: `Turning.none_wrong` speaks of it, and the space for the file is lent.
-#[derive(Drop)]
+#[derive(Clone, Drop)]
 pub struct Progress<const N: usize> {
     pub length: usize,
     pub case: Option<Case<N>>,
