@@ -1,6 +1,7 @@
 // A grammar's bodies as gap strings.
-ghost use Rattle.std.specs.Prelude.{◌≡◌, ℕ, suc, ◌+◌, ◌*◌, ◌≤◌, ◌<◌, [], ◌∷◌, ◌++◌, length, IsSome, replicate, MatchOption, option_to_list};
+ghost use Rattle.std.specs.Prelude.{◌≡◌, ℕ, suc, ◌+◌, ◌*◌, ◌≤◌, ◌<◌, [], ◌∷◌, ◌++◌, length, IsSome, MatchOption, option_to_list};
 ghost use Rattle.arrayvec.specs.ArrayVec.{array_vec_len};
+ghost use Rattle.grammar.specs.Measures.{Denotes};
 ghost use Rattle.queries.specs.Pieces.{PieceIs, due, next_gap, code_for, GapStands, after, Closes, Closable, first_gap, own, own_gap, own_starts};
 ghost use Rattle.queries.specs.Building.{Spelt};
 
@@ -83,7 +84,7 @@ pub(crate) struct GapStrings<'a> {
 impl<'a> GapStrings<'a> {
     // The gaps of all these rules of the file as pieces.
     pub(crate) fn new(file: &[u8], rules: &[Entry], sizes: &'a [u64]) -> Self
-        requires { Spelt file.now 0 rules.now sizes.now [] (replicate 1280 0) }
+        requires { Denotes file.now rules.now sizes.now }
         ensures spelt { Spelt file.now (length rules.now) rules.now result.sizes.now result.pieces.items result.starts }
         ensures sizes_kept { result.sizes.now ≡ sizes.now }
     {
@@ -120,7 +121,7 @@ impl<'a> GapStrings<'a> {
     // Puts what a word of a body itself gives: a label or ⊥ is its own piece, and a parameter ends a gap, so that the next one starts. Says which gap is put then.
     fn put_own(&mut self, w: u16, gap: usize) -> usize
         requires { (array_vec_len self.old.pieces < 16384) × (gap < 1280) × (own_gap w gap < 1280) }
-        ensures gap_value { result ≡ own_gap w gap }
+        ensures gap_after { result ≡ own_gap w gap }
         ensures pieces_after { self.new.pieces.items ≡ self.old.pieces.items ++ own w }
         ensures starts_after { self.new.starts ≡ own_starts w self.old.starts gap (array_vec_len self.new.pieces) }
         ensures sizes_kept { self.new.sizes.now ≡ self.old.sizes.now }

@@ -1,9 +1,6 @@
 -- `queries::window::expand` meets its contract: the words of the start rule's gap, which has no parameters, are the tree.
-use Rattle.queries.proofs.Windows.{nothing_spelt, walkable, window_words}
+use Rattle.queries.proofs.Windows.{walkable, window_words}
 use Rattle.queries.proofs.window.expand.Goals as goal
-
-pub new-strings-requires : goal.new-strings-requires
-new-strings-requires c = nothing_spelt c.requires.0
 
 pub walk-requires : goal.walk-requires
 walk-requires c = walkable c.new-strings.ensures.spelt.held c.new-strings.ensures.spelt _ _ c.requires.1

@@ -43,7 +43,7 @@ loop-i-preserved c =
       body = x.body;
       turn =
           next_turn x.body x.turn c.loop-i-test.true c.word_at-w.result c.word_at-w.ensures c.rank_of.result c.rank_of.ensures c.new.result c.new.ensures.0 c.new.ensures.1
-          _ _ _ _ c.put_own-gap.ensures.pieces_after c.put_own-gap.ensures.starts_after s refl _ _ _ _ c.close.ensures.closes c.close.ensures.starts_kept c.put_own-gap.ensures.gap_value;
+          _ _ _ _ c.put_own-gap.ensures.pieces_after c.put_own-gap.ensures.starts_after s refl _ _ _ _ c.close.ensures.closes c.close.ensures.starts_kept c.put_own-gap.ensures.gap_after;
       sizes_kept = c.close.ensures.sizes_kept ∙ s;
     }
 
