@@ -30,6 +30,7 @@ fn main(rt: HostRuntime) {
         argument(&rt, 2, &mut first),
         argument(&rt, 3, &mut second),
     );
+    // `io::read_full` gives a count of bytes, and the file is the front of that length.
     let mut file = [0; 16385];
     let n = match question {
         Some(_) => io::read_full(STDIN, &mut file),

@@ -37,7 +37,7 @@ fn main(rt: HostRuntime) {
         );
         return;
     };
-    // One byte over the largest file is enough to answer 9.
+    // One byte over the largest file is enough to answer 9. `io::read_full` gives a count of bytes, and the file is the front of that length.
     let mut file = [0; 16385];
     let n = io::read_full(STDIN, &mut file);
     let mut out: ArrayVec<u8, 128> = ArrayVec::new();

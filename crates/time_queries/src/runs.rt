@@ -72,7 +72,7 @@ fn run_whole<F: Fn(&[u8]) -> Reply>(file: &mut [u8], times: u64, call: F) -> Tal
     t
 }
 
-// Each call at another position.
+// Each call at another position. One loop for both would have to lend each call what changes, and lend it again to change it: no plainer than the two.
 fn run_at<F: Fn(u64) -> Reply>(starts: Starts, times: u64, call: F) -> Tally
     ghost replies: { ℕ → Replied }
     requires callable { F.IsAlwaysCallable call }
