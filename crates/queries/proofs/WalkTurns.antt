@@ -2,41 +2,38 @@
 use Prim.Native.Nat.{ℕ, suc, ◌+◌, ◌*◌, ◌-◌, ◌≤◌, ◌<◌}
 use native.Mathlib.Omega.{arith}
 use native.Mathlib.Numerals.{add-one}
-use mathlib.Core.Path.{◌≡◌, refl, sym, ap, ap₂, subst, ◌∙◌}
+use mathlib.Core.Path.{◌≡◌, sym, ap, ap₂, subst, ◌∙◌}
 use mathlib.Core.List.{List, [], ◌∷◌, ◌++◌}
-use lib.ListN.{length, take, drop, get_or, set, length-set, length-drop}
-use lib.Seq.{get_or-append_seam, take-suc, take-suc-set, get_or-drop}
-use Rattle.queries.specs.Pieces.{stop, Spelled, Walkable}
+use lib.ListN.{length, take, drop, get_or, set, length-drop}
+use lib.Seq.{get_or-append_seam, take-suc, take-suc-set, get_or-drop, take-length}
+use Rattle.queries.specs.Pieces.{stop, Spelled, Walkable, Walked}
 use Rattle.queries.proofs.Spelling.{Agree, append_agree, length_put}
 use Rattle.queries.proofs.Walking.{Walking, View, ended, on, view, place_below, walking_start, walk_pop, walk_word, walk_past, walk_over, walk_into, walking_agree, walk_cost, pile_cost_agree, cost_pop, cost_on, cost_into}
 
--- o words were given; what follows at the place i is the rest, whatever words the pieces are read as
-pub record Walk (P S sizes : List ℕ) (n p many : ℕ) (Fr : List ℕ) (i skip o : ℕ) (out : List ℕ) : Type 0 where
-  pub out_length : length out ≡ many
-  pub within : o ≤ many
+-- at the word o of `many`; what follows at the place i is the rest, whatever words the pieces are read as
+pub record Walk (P S sizes : List ℕ) (n p : ℕ) (Fr : List ℕ) (i skip o : ℕ) : Type 0 where
   pub deep : length Fr < n
-  pub shows : (G : ℕ → List ℕ) (top : ℕ) → Spelled G n top P S sizes → top ≤ length P
-      → Walking G P n top Fr (G (5 * (n - 1))) i (length Fr) skip (p + o) × (take o out ≡ take o (drop p (G (5 * (n - 1)))))
+  pub shows : (G : ℕ → List ℕ) (top : ℕ) → Spelled G n top P S sizes → top ≤ length P → Walking G P n top Fr (G (5 * (n - 1))) i (length Fr) skip (p + o)
+
+-- the first o words of `out` are given
+abbrev pub Given : List ℕ → List ℕ → List ℕ → ℕ → ℕ → ℕ → List ℕ → Type 0
+Given P S sizes n p o out = (G : ℕ → List ℕ) (top : ℕ) → Spelled G n top P S sizes → top ≤ length P → take o out ≡ take o (drop p (G (5 * (n - 1))))
 
 module _ {P S sizes : List ℕ} {n p many : ℕ} (W : Walkable P S sizes n p many) where
-  pub walk_start : (Fr out : List ℕ) → Fr ≡ [] → length out ≡ many → Walk P S sizes n p many Fr (get_or S (5 * (n - 1)) 0) p 0 out
-  walk_start Fr out f o = subst (λ (fs : List ℕ). Walk P S sizes n p many fs (get_or S (5 * (n - 1)) 0) p 0 out) (sym f)
+  pub walk_start : (Fr : List ℕ) → Fr ≡ [] → Walk P S sizes n p Fr (get_or S (5 * (n - 1)) 0) p 0
+  walk_start Fr f = subst (λ (fs : List ℕ). Walk P S sizes n p fs (get_or S (5 * (n - 1)) 0) p 0) (sym f)
       (record {
-        out_length = o;
-        within = omega arith;
         deep = W.some_rules;
         shows = λ G top s t.
             let e : p + 0 ≡ p = omega arith in
-            let l : 1 ≤ length (G (5 * (n - 1))) = omega (arith, W.some_words, s.measured (5 * (n - 1)) (omega (arith, W.some_rules))) in (
-              subst (λ (k : ℕ). Walking G P n top [] (G (5 * (n - 1))) (get_or S (5 * (n - 1)) 0) 0 p k) (sym e)
-                  (walking_start G P S sizes n top [] p W.some_rules l s),
-              refl,
-            );
+            let l : 1 ≤ length (G (5 * (n - 1))) = omega (arith, W.some_words, s.measured (5 * (n - 1)) (omega (arith, W.some_rules))) in
+            subst (λ (k : ℕ). Walking G P n top [] (G (5 * (n - 1))) (get_or S (5 * (n - 1)) 0) 0 p k) (sym e)
+            (walking_start G P S sizes n top [] p W.some_rules l s);
       })
 
-  module _ {Fr out : List ℕ} {i skip o : ℕ} (x : Walk P S sizes n p many Fr i skip o out) (h : o < length out) where
+  module _ {Fr : List ℕ} {i skip o : ℕ} (x : Walk P S sizes n p Fr i skip o) (h : o < many) where
     here : Walking W.G P n W.top Fr (W.G (5 * (n - 1))) i (length Fr) skip (p + o)
-    here = (x.shows W.G W.top W.spells W.within).0
+    here = x.shows W.G W.top W.spells W.within
 
     in_tree : (G : ℕ → List ℕ) (top : ℕ) → Spelled G n top P S sizes → p + o < length (G (5 * (n - 1)))
     in_tree G top s = omega (arith, W.fits, s.measured (5 * (n - 1)) (omega (arith, W.some_rules)))
@@ -44,46 +41,43 @@ module _ {P S sizes : List ℕ} {n p many : ℕ} (W : Walkable P S sizes n p man
     pub turn_place : i < length P
     turn_place = omega (arith, place_below here.slice, W.within)
 
-    pub turn_word : get_or P i 0 < 32768 → skip ≡ 0 → (w : ℕ) → w ≡ get_or P i 0 → Walk P S sizes n p many Fr (i + 1) skip (o + 1) (set out o w)
-    turn_word l z v e = subst (λ (v : ℕ). Walk P S sizes n p many Fr (i + 1) skip (o + 1) (set out o v)) (sym e)
-        (record {
-          out_length = length-set out o (get_or P i 0) ∙ x.out_length;
-          within = omega arith;
-          deep = x.deep;
-          shows = λ G top s t.
-              let tree = G (5 * (n - 1)) in
-              let y = x.shows G top s t in
-              let in-t = in_tree G top s in
-              let w = walk_word W.few_rules y.0 l z in-t in
-              let lo = x.out_length in
-              let e : suc (p + o) ≡ p + (o + 1) = omega arith in (
+    -- the next word
+    module _ (l : get_or P i 0 < 32768) (z : skip ≡ 0) where
+      pub turn_word : Walk P S sizes n p Fr (i + 1) skip (o + 1)
+      turn_word =
+          record {
+            deep = x.deep;
+            shows = λ G top s t.
+                let tree = G (5 * (n - 1)) in
+                let e : suc (p + o) ≡ p + (o + 1) = omega arith in
                 subst (λ (k : ℕ). Walking G P n top Fr tree k (length Fr) skip (p + (o + 1))) (sym (add-one i))
-                    (subst (λ (k : ℕ). Walking G P n top Fr tree (suc i) (length Fr) k (p + (o + 1))) (sym z)
-                    (subst (Walking G P n top Fr tree (suc i) (length Fr) 0) e w.1)),
-                ap (λ (k : ℕ). take k (set out o (get_or P i 0))) (add-one o)
-                    ∙ take-suc-set out o (get_or P i 0) (omega arith)
-                    ∙ ap₂ (λ (l : List ℕ) (v : ℕ). l ++ v ∷ []) y.1 (sym w.0 ∙ sym (get_or-drop p tree o 0))
-                    ∙ sym (take-suc (drop p tree) o 0 (omega (arith, length-drop p tree)))
-                    ∙ ap (λ (k : ℕ). take k (drop p tree)) (sym (add-one o)),
-              );
-        })
+                (subst (λ (k : ℕ). Walking G P n top Fr tree (suc i) (length Fr) k (p + (o + 1))) (sym z)
+                (subst (Walking G P n top Fr tree (suc i) (length Fr) 0) e (walk_word W.few_rules (x.shows G top s t) l z (in_tree G top s)).1));
+          }
+
+      pub given_word : (out : List ℕ) → length out ≡ many → (w : ℕ) → w ≡ get_or P i 0 → Given P S sizes n p o out → Given P S sizes n p (o + 1) (set out o w)
+      given_word out m w we g G top s t =
+          let tree = G (5 * (n - 1)) in
+          let in-t = in_tree G top s in
+          let v : get_or tree (p + o) 0 ≡ w = (walk_word W.few_rules (x.shows G top s t) l z in-t).0 ∙ sym we in
+          ap (λ (k : ℕ). take k (set out o w)) (add-one o)
+          ∙ take-suc-set out o w (omega arith)
+          ∙ ap₂ (λ (l : List ℕ) (v : ℕ). l ++ v ∷ []) (g G top s t) (sym v ∙ sym (get_or-drop p tree o 0))
+          ∙ sym (take-suc (drop p tree) o 0 (omega (arith, length-drop p tree)))
+          ∙ ap (λ (k : ℕ). take k (drop p tree)) (sym (add-one o))
 
     -- a piece that is passed: only the words to skip change
     passed : (skip' : ℕ)
         → ((G : ℕ → List ℕ) (top : ℕ) → Spelled G n top P S sizes → Walking G P n top Fr (G (5 * (n - 1))) i (length Fr) skip (p + o)
         → Walking G P n top Fr (G (5 * (n - 1))) (suc i) (length Fr) skip' (p + o))
-        → Walk P S sizes n p many Fr (i + 1) skip' o out
+        → Walk P S sizes n p Fr (i + 1) skip' o
     passed skip' f =
         record {
-          out_length = x.out_length;
-          within = x.within;
           deep = x.deep;
-          shows = λ G top s t.
-              let y = x.shows G top s t in
-              (subst (λ (k : ℕ). Walking G P n top Fr (G (5 * (n - 1))) k (length Fr) skip' (p + o)) (sym (add-one i)) (f G top s y.0), y.1);
+          shows = λ G top s t. subst (λ (k : ℕ). Walking G P n top Fr (G (5 * (n - 1))) k (length Fr) skip' (p + o)) (sym (add-one i)) (f G top s (x.shows G top s t));
         }
 
-    pub turn_past : get_or P i 0 < 32768 → (skip ≡ 0 → ⊥) → Walk P S sizes n p many Fr (i + 1) (skip - 1) o out
+    pub turn_past : get_or P i 0 < 32768 → (skip ≡ 0 → ⊥) → Walk P S sizes n p Fr (i + 1) (skip - 1) o
     turn_past l z = passed (skip - 1) (λ G top s w. walk_past W.few_rules w l (omega arith))
 
     pub turn_deep : get_or P i 0 ≡ stop → 0 < length Fr
@@ -101,7 +95,7 @@ module _ {P S sizes : List ℕ} {n p many : ℕ} (W : Walkable P S sizes n p man
       pub gap_low : g < 5 * n
       gap_low = omega (arith, (turn_gap l u).0)
 
-      pub turn_over : get_or sizes g 0 ≤ skip → Walk P S sizes n p many Fr (i + 1) (skip - get_or sizes g 0) o out
+      pub turn_over : get_or sizes g 0 ≤ skip → Walk P S sizes n p Fr (i + 1) (skip - get_or sizes g 0) o
       turn_over k =
           passed (skip - get_or sizes g 0) (λ G top s w.
           let z : get_or sizes g 0 ≡ get_or sizes (get_or P i 0 - 32768) 0 = ap (λ (j : ℕ). get_or sizes j 0) ge in
@@ -118,23 +112,18 @@ module _ {P S sizes : List ℕ} {n p many : ℕ} (W : Walkable P S sizes n p man
         frame_there : get_or Fr' (length Fr) 0 ≡ suc i
         frame_there = ap (λ (fs : List ℕ). get_or fs (length Fr) 0) more ∙ get_or-append_seam Fr v [] 0 ∙ ve ∙ add-one i
 
-        pub turn_into : skip < get_or sizes g 0 → Walk P S sizes n p many Fr' (get_or S g 0) skip o out
+        pub turn_into : skip < get_or sizes g 0 → Walk P S sizes n p Fr' (get_or S g 0) skip o
         turn_into k =
             let few = W.few_rules in
             let q = turn_gap l u in
             record {
-              out_length = x.out_length;
-              within = x.within;
               deep = omega (arith, length_more);
               shows = λ G top s t.
-                  let y = x.shows G top s t in
                   let z : get_or sizes g 0 ≡ get_or sizes (get_or P i 0 - 32768) 0 = ap (λ (j : ℕ). get_or sizes j 0) ge in
-                  let m = s.measured (get_or P i 0 - 32768) q.0 in (
-                    subst (λ (j : ℕ). Walking G P n top Fr' (G (5 * (n - 1))) (get_or S j 0) (length Fr') skip (p + o)) (sym ge)
-                        (subst (λ (k : ℕ). Walking G P n top Fr' (G (5 * (n - 1))) (get_or S (get_or P i 0 - 32768) 0) k skip (p + o)) (sym length_more)
-                        (walk_into few y.0 s Fr' frames_agree frame_there l u (omega arith)).2),
-                    y.1,
-                  );
+                  let m = s.measured (get_or P i 0 - 32768) q.0 in
+                  subst (λ (j : ℕ). Walking G P n top Fr' (G (5 * (n - 1))) (get_or S j 0) (length Fr') skip (p + o)) (sym ge)
+                  (subst (λ (k : ℕ). Walking G P n top Fr' (G (5 * (n - 1))) (get_or S (get_or P i 0 - 32768) 0) k skip (p + o)) (sym length_more)
+                  (walk_into few (x.shows G top s t) s Fr' frames_agree frame_there l u (omega arith)).2);
             }
 
         pub less_into : walk_cost P S n Fr' (get_or S g 0) (length Fr') < walk_cost P S n Fr i (length Fr)
@@ -157,20 +146,15 @@ module _ {P S sizes : List ℕ} {n p many : ℕ} (W : Walkable P S sizes n p man
       agree : Agree (length Fr') Fr' Fr
       agree j k = sym (append_agree Fr' (v ∷ []) j k) ∙ ap (λ (fs : List ℕ). get_or fs j 0) (sym was)
 
-      pub turn_pop : Walk P S sizes n p many Fr' v skip o out
+      pub turn_pop : Walk P S sizes n p Fr' v skip o
       turn_pop =
           record {
-            out_length = x.out_length;
-            within = x.within;
             deep = omega (arith, x.deep, one_less);
             shows = λ G top s t.
-                let y = x.shows G top s t in (
-                  walking_agree Fr' agree
-                      (subst (λ (k : ℕ). Walking G P n top Fr (G (5 * (n - 1))) v k skip (p + o)) one_less
-                      (subst (λ (j : ℕ). Walking G P n top Fr (G (5 * (n - 1))) j (length Fr - 1) skip (p + o)) there
-                      (walk_pop W.few_rules y.0 e (in_tree G top s)).1)),
-                  y.1,
-                );
+                walking_agree Fr' agree
+                (subst (λ (k : ℕ). Walking G P n top Fr (G (5 * (n - 1))) v k skip (p + o)) one_less
+                (subst (λ (j : ℕ). Walking G P n top Fr (G (5 * (n - 1))) j (length Fr - 1) skip (p + o)) there
+                (walk_pop W.few_rules (x.shows G top s t) e (in_tree G top s)).1));
           }
 
       pub less_pop : walk_cost P S n Fr' v (length Fr') < walk_cost P S n Fr i (length Fr)
@@ -179,3 +163,9 @@ module _ {P S sizes : List ℕ} {n p many : ℕ} (W : Walkable P S sizes n p man
           subst (λ (k : ℕ). walk_cost P S n Fr v k < walk_cost P S n Fr i (length Fr)) one_less
           (subst (λ (j : ℕ). walk_cost P S n Fr j (length Fr - 1) < walk_cost P S n Fr i (length Fr)) there (cost_pop P S n Fr i (length Fr) turn_place e (turn_deep e))) in
           omega (arith, pile_cost_agree P S n Fr Fr' (length Fr') agree)
+
+  -- all of `out` is given
+  pub walk_end : (o : ℕ) (out : List ℕ) → length out ≤ o → o ≤ length out → Given P S sizes n p o out → Walked P S sizes n p out
+  walk_end o out l m g G top s t =
+      let e : o ≡ length out = omega arith in
+      sym (take-length out) ∙ ap (λ (k : ℕ). take k out) (sym e) ∙ g G top s t ∙ ap (λ (k : ℕ). take k (drop p (G (5 * (n - 1))))) e

@@ -15,32 +15,30 @@ pub(crate) fn walk(strings: &GapStrings, n: usize, p: u64, out: &mut [u16])
     let mut frames = ArrayVec::<u16, 256>::new();
     let mut i = strings.starts[5 * (n - 1)] as usize;
     let mut skip = p;
-    let mut o: usize = 0;
-    // A turn gives a word or only moves on, so that a `for` over `out` would need a second loop in it.
-    while o < out.len() {
-        match Piece::from(strings.pieces[i]) {
-            Piece::Word(w) => {
-                i += 1;
-                if skip == 0 {
-                    out[o] = w;
-                    o += 1;
-                } else {
+    for x in out.iter_mut() {
+        *x = loop {
+            match Piece::from(strings.pieces[i]) {
+                Piece::Word(w) => {
+                    i += 1;
+                    if skip == 0 {
+                        break w;
+                    }
                     skip -= 1;
                 }
-            }
-            Piece::Stop => {
-                i = frames.pop().unwrap() as usize;
-            }
-            Piece::Gap(g) => {
-                let s = strings.sizes[g];
-                if s <= skip {
-                    skip -= s;
-                    i += 1;
-                } else {
-                    frames.push((i + 1) as u16);
-                    i = strings.starts[g] as usize;
+                Piece::Stop => {
+                    i = frames.pop().unwrap() as usize;
+                }
+                Piece::Gap(g) => {
+                    let s = strings.sizes[g];
+                    if s <= skip {
+                        skip -= s;
+                        i += 1;
+                    } else {
+                        frames.push((i + 1) as u16);
+                        i = strings.starts[g] as usize;
+                    }
                 }
             }
-        }
+        };
     }
 }
