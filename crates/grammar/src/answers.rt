@@ -17,7 +17,8 @@ pub fn check(file: &[u8]) -> Answer
     Answer::from(read(file, &mut table, &mut sizes))
 }
 
-// An answer with N. Kept beside the answer and not in a Result: document 01 has "Refused, N is 0", which `count` promises.
+// An answer with N. Kept beside the answer and not in a Result: document 01 has "Refused, N is 0", which `count` promises. No generic struct stands for this one and the
+// label query's: N and the word would lose their names, by which `count` and `label` promise them.
 #[derive(Clone, Copy, PartialEq, Eq)]
 pub struct Counted {
     pub answer: Answer,
@@ -36,8 +37,5 @@ pub fn count(file: &[u8]) -> Counted
         Ok(n) => first_gaps(&sizes, n - 1, 5),
         Err(_) => 0,
     };
-    Counted {
-        answer: answer,
-        nodes: nodes,
-    }
+    Counted { answer, nodes }
 }

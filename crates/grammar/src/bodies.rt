@@ -108,6 +108,7 @@ pub fn subtree_end(body: &[u8], i: usize, rules: &[Entry]) -> usize
     ensures { (result ≡ i + length (subtree (ranks_in rules.now) i (words_in body.now))) × (result ≤ length (words_in body.now)) }
 {
     let mut c = Cursor::at_place(i);
+    // No `for`: as in `one_tree`, the cursor says the place.
     while 0 < c.due {
         let j = c.at;
         c = c.step(rank_of(rules, word_at(body, 2 * j)));

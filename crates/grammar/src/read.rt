@@ -9,7 +9,8 @@ use crate::refusals::{Refusal, Refused, placed};
 use crate::rules::{Entry, rules};
 use crate::sizes::{first_gaps, measure};
 
-// 9; the records; 8, 10, 11. Taken, the number of its rules. Refused, both tables hold only 0.
+// 9; the records; 8, 10, 11. Taken, the number of its rules, whose entries are the first of the table; it is lent longer than that, since how many there are is known
+// only once the head is read. Refused, both tables hold only 0.
 pub fn read(file: &[u8], table: &mut [Entry], sizes: &mut [u64]) -> Result<usize, Refused>
     requires { (256 ≤ length table.old) × (1280 ≤ length sizes.old) }
     ensures { ReadIs file.now result (read file.now) table.old table.new sizes.old sizes.new }

@@ -35,19 +35,17 @@ impl Refusal {
     {
         Refused {
             refusal: self,
-            place: place,
+            place,
         }
     }
 }
 
-// What was read of the record with this number, or its refusal with that place.
-pub(crate) fn placed<T>(read: Result<T, Refusal>, place: usize) -> Result<T, Refused>
+// What was read of the record with this number, or its refusal with that place. Not `map_err` at each call: tried, what the closure gives stayed folded in the proofs
+// of both callers (`returns-in_err-n` open).
+pub(crate) fn placed<T: Drop>(read: Result<T, Refusal>, place: usize) -> Result<T, Refused>
     ensures { MatchResult read (λ a. result ≡ Ok a) (λ x. result ≡ Err (record { refusal = x; place = place })) }
 {
-    match read {
-        Ok(a) => Ok(a),
-        Err(x) => Err(x.at(place)),
-    }
+    read.map_err(|x| x.at(place))
 }
 
 // A refusal with its place.
@@ -57,7 +55,7 @@ pub struct Refused {
     pub place: usize,
 }
 
-// Accepted, or refused, beside the counts.
+// Accepted, or refused, beside the counts: document 01 asks for a struct that holds the refusal with its place next to them.
 #[derive(Clone, Copy, PartialEq, Eq)]
 pub struct Answer {
     pub verdict: Result<(), Refused>,

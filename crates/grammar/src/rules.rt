@@ -67,7 +67,7 @@ fn rule_in(
         return Err(Refusal::Body);
     }
     Ok(Entry {
-        rank: rank,
+        rank,
         place: (at + 8) as u16,
         words: ((len - 2) / 2) as u16,
     })

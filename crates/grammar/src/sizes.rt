@@ -1,4 +1,6 @@
-// Document 01, "Parts": the gap sizes of all rules, in a table that is filled from the lowest rule up.
+// Document 01, "Parts": the gap sizes of all rules, in a table that is filled from the lowest rule up. The table is flat, five gaps to a rule, since document 01 asks for
+// "a size table [0; 1280] of u64". It is lent as a slice, as `read` and `own` take one of any length from 1,280 on; that and the bounds on its sizes, on a body and on the
+// rules stand in the contracts, and `file`, `rules` and `sizes` go side by side: a struct of references would be read as `it.entry.sizes.now` in each clause (see bodies).
 ghost use Rattle.std.specs.Prelude.{◌≡◌, suc, ◌+◌, ◌*◌, ◌≤◌, ◌<◌, ◌^◌, [], length, get_or, replicate, sum};
 ghost use Rattle.model.specs.Bounds.{largest_size};
 ghost use Rattle.model.specs.Words.{rank_of};
