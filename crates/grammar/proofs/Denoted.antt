@@ -46,9 +46,9 @@ module _ {file : List ℕ} {rules : List Entry} {sizes : List ℕ} (d : Denotes 
     rule : RuleOf d.rules r
     rule = rule_of d.rules d.is_formed r (omega (arith, as_many))
 
-    -- a rule's gaps are in the size table
-    pub gaps_inside : 5 * r + 5 ≤ length sizes
-    gaps_inside = (inside laid r below sizes d.longer).1
+    -- a rule's entries are in the tables
+    pub entry_inside : (r < length rules) × (5 * r + 5 ≤ length sizes)
+    entry_inside = (below, (inside laid r below sizes d.longer).1)
 
     pub rank_is : (get_or rules r no_rule).rank ≡ get_or (ranks_of d.rules) r 0
     rank_is = table_rank laid r below
@@ -59,6 +59,9 @@ module _ {file : List ℕ} {rules : List Entry} {sizes : List ℕ} (d : Denotes 
     -- the body stands within the file
     pub body_fits : (get_or rules r no_rule).place + 2 * (get_or rules r no_rule).words ≤ length file
     body_fits = there.fits
+
+    pub body_short : (get_or rules r no_rule).words ≤ 8192
+    body_short = omega (arith, there.short)
 
     pub words_are : (get_or rules r no_rule).words ≡ length (body_at d.rules r)
     words_are = there.many
@@ -75,10 +78,15 @@ module _ {file : List ℕ} {rules : List Entry} {sizes : List ℕ} (d : Denotes 
         ap₂ is_tree ranks_are body_is
         ∙ T_true (is_tree (ranks_of d.rules) (body_at d.rules r)) (tree_is_tree (ranks_of d.rules) (body_at d.rules r) rule.tree)
 
-    -- all of it, of its bytes
-    pub body_read : (bytes : List ℕ) → bytes ≡ take (2 * (get_or rules r no_rule).words) (drop (get_or rules r no_rule).place file)
+    -- all of it, of a place and a length as they were read
+    pub body_read : (at w : ℕ) → at ≡ (get_or rules r no_rule).place → w ≡ (get_or rules r no_rule).words
+        → (body_in file at w ≡ body_at d.rules r) × (at + 2 * w ≤ length file) × (w ≤ 8192) × (is_tree (ranks_in rules) (body_in file at w) ≡ true)
+    body_read at w e f = rw (e, f) (body_is, body_fits, body_short, body_tree)
+
+    -- and of its bytes
+    pub bytes_read : (bytes : List ℕ) → bytes ≡ take (2 * (get_or rules r no_rule).words) (drop (get_or rules r no_rule).place file)
         → (words_in bytes ≡ body_at d.rules r) × (length bytes / 2 ≡ length (body_at d.rules r)) × (length bytes ≤ 16384) × (is_tree (ranks_in rules) (words_in bytes) ≡ true)
-    body_read bytes e = let b = bytes_there laid r below bytes e in (b.is, b.many, b.short, ap (λ (l : List ℕ). is_tree (ranks_in rules) (words_in l)) e ∙ body_tree)
+    bytes_read bytes e = let b = bytes_there laid r below bytes e in (b.is, b.many, b.short, ap (λ (l : List ℕ). is_tree (ranks_in rules) (words_in l)) e ∙ body_tree)
 
     pub word_read : (bytes : List ℕ) → bytes ≡ take (2 * (get_or rules r no_rule).words) (drop (get_or rules r no_rule).place file)
         → (i : ℕ) → i < length bytes / 2 → word_in bytes (2 * i) ≡ get_or (body_at d.rules r) i 0

@@ -89,7 +89,7 @@ module _ {file : List ℕ} {table : List Entry} {sizes : List ℕ} (D : Denotes 
     -- the bytes of its body
     pub rule_body : (bytes : List ℕ) → bytes ≡ take (2 * (get_or table r no_rule).words) (drop (get_or table r no_rule).place file)
         → (words_in bytes ≡ body_at R r) × (length bytes / 2 ≡ length (body_at R r))
-    rule_body bytes e = let b = denoted.body_read H r below bytes e in (b.0, b.1)
+    rule_body bytes e = let b = denoted.bytes_read H r below bytes e in (b.0, b.1)
 
     pub rule_within : (get_or table r no_rule).place + 2 * length (body_at R r) ≤ 16384
     rule_within = omega (arith, rule_fits, words_are, H.short)

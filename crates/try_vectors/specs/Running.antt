@@ -1,5 +1,5 @@
 -- What a run over a data file counts.
-use Rattle.std.specs.Prelude.{ℕ, suc, ◌≡◌, Bool, true, cond, ◌↔◌, ◌⊎◌, List, None, IfSome, is_some, take}
+use Rattle.std.specs.Prelude.{ℕ, suc, ◌≡◌, ◌≤◌, Bool, true, cond, ◌↔◌, ◌⊎◌, List, None, IfSome, is_some, take}
 use Rattle.cases.specs.declared.case.Case.{Case}
 use Rattle.cases.specs.declared.progress.Progress.{Progress}
 use Rattle.cases.specs.Progress.{Advanced, begun, judged_as}
@@ -23,11 +23,11 @@ module _ {N : ℕ} where
     not_yet : Ran ready 0 (begun ready)
     further : {n : ℕ} {p r : Progress N} {file : List ℕ} → Ran ready n p → Turned p r file → Ran ready (suc n) r
 
-  -- to the data's end, or to a number of turns that no data reaches
+  -- to the data's end, which no run is at before its first turn, or to a number of turns that no data reaches
   pub record RanOut (ready : ℕ) (r : Progress N) : Type 0 where
     pub turns : ℕ
     pub ran : Ran ready turns r
-    pub ended : (r.case ≡ None) ⊎ (turns ≡ 1000000)
+    pub ended : ((1 ≤ turns) × (r.case ≡ None)) ⊎ (turns ≡ 1000000)
 
   -- each of the cases was right
   abbrev pub AllRight : {ready n : ℕ} {r : Progress N} → Ran ready n r → Type 0

@@ -11,7 +11,7 @@ loop-init c = rw c.new-p.ensures (not_yet, c.requires, omega arith, omega arith)
 pub returns-then-is_none : goal.returns-then-is_none
 returns-then-is_none c =
     let l = c.loop in
-    record { turns = suc l.counter; ran = further l.invariant.0 c.turn-p.ensures; ended = inl (grind (arith, common_steps)) }
+    record { turns = suc l.counter; ran = further l.invariant.0 c.turn-p.ensures; ended = inl (omega arith, grind (arith, common_steps)) }
 
 pub loop-preserved : goal.loop-preserved
 loop-preserved c =
