@@ -1,15 +1,23 @@
 // Document 01, "File layout": numbers and records, read where they stand.
-ghost use Rattle.std.specs.Prelude.{◌≡◌, ◌+◌, ◌≤◌, ◌<◌, length, drop};
+ghost use Rattle.std.specs.Prelude.{◌≡◌, ◌+◌, ◌≤◌, ◌<◌, length, take, drop};
 ghost use Rattle.grammar.specs.Meaning.{word_in, length_in, kind_is, result_is, length_allowed, record_result, head_result};
 
 use crate::refusals::Refusal;
+
+// The N bytes at a place.
+pub fn bytes_at<const N: usize>(file: &[u8], at: usize) -> [u8; N]
+    requires { at + N ≤ length file.now }
+    ensures { result ≡ take N (drop at file.now) }
+{
+    file[at..at + N].try_into().unwrap()
+}
 
 // The 16-bit number at a place.
 pub fn word_at(file: &[u8], at: usize) -> u16
     requires { at + 1 < length file.now }
     ensures { result ≡ word_in file.now at }
 {
-    u16::from_le_bytes([file[at], file[at + 1]])
+    u16::from_le_bytes(bytes_at(file, at))
 }
 
 // The 32-bit number at a place.
@@ -17,7 +25,7 @@ pub fn length_at(file: &[u8], at: usize) -> usize
     requires { at + 3 < length file.now }
     ensures { result ≡ length_in file.now at }
 {
-    u32::from_le_bytes([file[at], file[at + 1], file[at + 2], file[at + 3]]) as usize
+    u32::from_le_bytes(bytes_at(file, at)) as usize
 }
 
 // The kinds of records, by their numbers.
