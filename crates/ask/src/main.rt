@@ -30,13 +30,14 @@ fn main(rt: HostRuntime) {
         argument(&rt, 2, &mut first),
         argument(&rt, 3, &mut second),
     );
-    // `io::read_full` gives a count of bytes, and the file is the front of that length.
+    // `io::read_full` gives a count, and the file is sliced at once; an ArrayVec would be no plainer: filled to be lent, then cut to the same count.
     let mut file = [0; 16385];
     let n = match question {
         Some(_) => io::read_full(STDIN, &mut file),
         None => 0,
     };
+    let file = &file[..n];
     let mut out: ArrayVec<u8, 82000> = ArrayVec::new();
-    put_reply(question, &file[..n], &mut out);
+    put_reply(question, file, &mut out);
     io::write_all(STDOUT, &out);
 }

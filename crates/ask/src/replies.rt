@@ -41,6 +41,7 @@ pub(crate) fn put_reply<const N: usize>(q: Option<Question>, file: &[u8], out: &
 }
 
 // An answer, and where it is accepted a line of a name and a number.
+// No `write!`, as in text::lines: what it promises doesn't rule out an `Err` where the text fits.
 fn put_numbered<const N: usize>(answer: Answer, name: &[u8], n: u64, out: &mut ArrayVec<u8, N>)
     requires { (length name.now ≤ 10) × (array_vec_len out.old + 120 ≤ N) }
     ensures { out.new.items ≡ out.old.items ++ reply (answer_is answer) (name.now ++ decimal n ++ (10 ∷ [])) }

@@ -66,12 +66,12 @@ impl Question {
     }
 }
 
-// The 64-bit number at a place. `u64::from_le_bytes` would be no plainer: it takes eight bytes, one by one.
+// The 64-bit number at a place.
 fn long_at(bytes: &[u8], at: usize) -> u64
     requires { at + 7 < length bytes.now }
     ensures { result ≡ long_in bytes.now at }
 {
-    length_at(bytes, at) as u64 + 4294967296 * length_at(bytes, at + 4) as u64
+    u64::from_le_bytes(bytes[at..at + 8].try_into().unwrap())
 }
 
 // The words are those that stand at a place.

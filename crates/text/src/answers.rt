@@ -35,6 +35,7 @@ fn put_refusal<const N: usize>(x: Refused, out: &mut ArrayVec<u8, N>)
     ensures items { out.new.items ≡ out.old.items ++ refusal_line (number_of (refusal_is x.refusal)) x.place }
     ensures len { array_vec_len out.new ≤ array_vec_len out.old + 80 }
 {
+    // No `write!`, as in `lines`: what it promises doesn't rule out an `Err` where the text fits.
     put(b"refused ", out);
     put_decimal(number(x.refusal) as u64, out);
     put(b" ", out);

@@ -37,10 +37,12 @@ fn main(rt: HostRuntime) {
         );
         return;
     };
-    // One byte over the largest file is enough to answer 9. `io::read_full` gives a count of bytes, and the file is the front of that length.
+    // One byte over the largest file is enough to answer 9.
+    // `io::read_full` gives a count, and the file is sliced at once; an ArrayVec would be no plainer: filled to be lent, then cut to the same count.
     let mut file = [0; 16385];
     let n = io::read_full(STDIN, &mut file);
+    let file = &mut file[..n];
     let mut out: ArrayVec<u8, 128> = ArrayVec::new();
-    put_run(task, &mut file[..n], &mut out);
+    put_run(task, file, &mut out);
     io::write_all(STDOUT, &out);
 }

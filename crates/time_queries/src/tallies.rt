@@ -19,6 +19,7 @@ pub struct Reply {
     pub value: u64,
 }
 
+// One From for each of the two: their public fields have other names, `nodes` and `word`, so no one impl reads both.
 impl From<Counted> for Reply {
     ghost from_gives = { λ c r. (r.answer ≡ c.answer) × (r.value ≡ c.nodes) };
 
@@ -59,7 +60,7 @@ impl Tally {
         let number = verdict_number(verdict);
         let place = verdict_place(verdict);
         let sum = mix(mix(mix(self.sum, number as u64), place as u64), reply.value);
-        if number == 0 {
+        if verdict.is_ok() {
             return Tally {
                 accepted: self.accepted + 1,
                 sum,
@@ -69,6 +70,7 @@ impl Tally {
     }
 
     // "nodes 11 accepted 5 sum 12345"
+    // No `write!`, as in text::lines: what it promises doesn't rule out an `Err` where the text fits.
     pub(crate) fn put<const N: usize>(self, nodes: u64, out: &mut ArrayVec<u8, N>)
         requires { array_vec_len out.old + 100 ≤ N }
         ensures { out.new.items ≡ out.old.items ++ tally_line nodes self }
@@ -84,8 +86,9 @@ impl Tally {
 }
 
 // The checksum with one more number; an order other than the right one changes it.
+// It wraps. Of the number the low 32 bits are taken by `%`, as `as` may lose nothing.
 fn mix(sum: u32, x: u64) -> u32
     ensures { result ≡ mixed sum x }
 {
-    ((31 * sum as u64 + x % 4294967296) % 4294967296) as u32
+    sum.wrapping_mul(31).wrapping_add((x % 4294967296) as u32)
 }

@@ -119,7 +119,8 @@ fn is_right(file: &[u8], case: &Case<PAYLOAD>) -> bool
         }
         Kind::Label => {
             let labelled = label(file, q.position);
-            is_query_answer(labelled.answer, q.number, q.place) && labelled.word as u64 == q.value
+            is_query_answer(labelled.answer, q.number, q.place)
+                && u64::from(labelled.word) == q.value
         }
         Kind::Window => {
             let n = (case.payload.len() - 20) / 2;
