@@ -5,7 +5,7 @@ ghost use Rattle.cases.specs.Records.{Fits, long_in, WordsAt};
 
 use crate::case::{Case, Kind};
 use arrayvec::ArrayVec;
-use grammar::file::{length_at, word_at};
+use grammar::file::{bytes_at, length_at, word_at};
 
 // What the next record is: a file, with its length, which is at the start of the slice that was lent for it, or a case.
 #[derive(Drop)]
@@ -71,7 +71,7 @@ fn long_at(bytes: &[u8], at: usize) -> u64
     requires { at + 7 < length bytes.now }
     ensures { result ≡ long_in bytes.now at }
 {
-    u64::from_le_bytes(bytes[at..at + 8].try_into().unwrap())
+    u64::from_le_bytes(bytes_at(bytes, at))
 }
 
 // The words are those that stand at a place.
