@@ -6,7 +6,8 @@ ghost use Rattle.queries.specs.Labels.{label_is};
 use crate::window::window;
 use grammar::refusals::Answer;
 
-// An answer with the word. Kept beside the answer and not in a Result: document 01 has FFFF for a refused label, which `label` promises.
+// An answer with the word. Kept beside the answer and not in a Result: document 01 has FFFF for a refused label, which `label` promises. Not one generic type with
+// `Counted`: `word` and `nodes` are public fields, by which callers and contracts name what each query adds.
 #[derive(Clone, Copy, PartialEq, Eq)]
 pub struct Labelled {
     pub answer: Answer,

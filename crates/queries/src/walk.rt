@@ -1,5 +1,5 @@
 // The words that pieces spell, from an offset on.
-ghost use Rattle.std.specs.Prelude.{length, ◌≡◌};
+ghost use Rattle.std.specs.Prelude.{length};
 ghost use Rattle.queries.specs.Pieces.{Walkable, Walked};
 
 use crate::pieces::{GapStrings, Piece};
@@ -9,8 +9,7 @@ use arrayvec::ArrayVec;
 // come back to, and names only gaps of lower rules, so that there are at most 255 such places.
 pub(crate) fn walk(strings: &GapStrings, n: usize, p: u64, out: &mut [u16])
     requires { Walkable strings.now.pieces.items strings.now.starts strings.now.sizes.now n p (length out.old) }
-    ensures out_len_unchanged { length out.new ≡ length out.old }
-    ensures walked { Walked strings.now.pieces.items strings.now.starts strings.now.sizes.now n p out.new }
+    ensures { Walked strings.now.pieces.items strings.now.starts strings.now.sizes.now n p out.new }
 {
     let mut frames = ArrayVec::<u16, 256>::new();
     let mut i = strings.starts[5 * (n - 1)] as usize;

@@ -87,5 +87,5 @@ loop-x-preserved c =
       given = given_word c.requires c.loop-w.invariant c.loop-x-test.true p.0 c.if-skip-eq0.true _ c.loop-x.auto.out _ p.1 c.loop-x.invariant.given;
     }
 
-pub returns-clause-walked : goal.returns-clause-walked
-returns-clause-walked c = walk_end c.requires _ _ (omega arith) (omega arith) c.loop-x.invariant.given
+pub returns : goal.returns
+returns c = walk_end c.requires _ _ (omega arith) (omega arith) c.loop-x.invariant.given

@@ -7,4 +7,4 @@ walk-requires c = walkable c.new-strings.ensures.spelt.held c.new-strings.ensure
 
 pub returns : goal.returns
 returns c =
-    window_words c.new-strings.ensures.spelt.held c.new-strings.ensures.spelt c.args.p _ _ c.walk.ensures.out_len_unchanged c.walk.ensures.walked
+    window_words c.new-strings.ensures.spelt.held c.new-strings.ensures.spelt c.args.p _ _ c.walk.auto.out c.walk.ensures
