@@ -37,7 +37,8 @@ impl From<u16> for Piece {
 
 // A word of a body that is open: how many of its gaps are still due, one or more, and the next of them. What has no gaps has 1,280, which no rule has.
 // One number holds both: 2048 times how many, and the next, which is below 2048. Two fields, `due: u8` and `next: u16`, were tried: 16,384 bytes more, and a label
-// or a window of the 16 KB files of tools/bench took 3 to 11 % more time (a label: 4,091 siblings 81,894 ns for 76,678, 8,100 nested calls 151,946 for 143,636).
+// or a window of the 16 KB files of tools/bench took 3 to 11 % more time (a label: 4,091 siblings 81,894 ns for 76,678, 8,100 nested calls 151,946 for 143,636), so that
+// flat bodies would no longer be level with the plain program, as docs/DECISIONS.md has them.
 #[derive(Clone, Copy, Default)]
 pub(crate) struct Open(u16);
 
