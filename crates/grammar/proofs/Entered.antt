@@ -21,6 +21,7 @@ use Rattle.grammar.proofs.RuleLists.{length_entries, ranks_of_entries}
 
 -- an entry says of a rule
 pub record EntryOf (file : List ℕ) (R : List Rule) (end r : ℕ) (rule : Entry) : Type 0 where
+  pub rank : rule.rank ≡ get_or (ranks_of R) r 0
   pub words : rule.words ≡ length (body_at R r)
   pub body : body_in file rule.place (length (body_at R r)) ≡ body_at R r
   pub within : rule.place + 2 * length (body_at R r) + 8 ≤ end
@@ -33,10 +34,10 @@ pub entry_of : (file : List ℕ) (place : ℕ) (R : List Rule) → Bodies file p
     → EntryOf file R (place_after place R) r (get_or (entries place R) r no_rule)
 entry_of file place [] b r h = absurd (omega arith)
 entry_of file place (x ∷ rs) b zero h =
-    record { words = refl; body = b.0; within = place_grows (place + 2 * length x.body + 8) rs }
+    record { rank = refl; words = refl; body = b.0; within = place_grows (place + 2 * length x.body + 8) rs }
 entry_of file place (x ∷ rs) b (suc r) h =
     let E = entry_of file (place + 2 * length x.body + 8) rs b.1 r (omega arith) in
-    record { words = E.words; body = E.body; within = E.within }
+    record { rank = E.rank; words = E.words; body = E.body; within = E.within }
 
 -- a body stands in the file where an entry says
 pub record BodyThere (file body : List ℕ) (rule : Entry) : Type 0 where

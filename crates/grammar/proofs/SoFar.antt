@@ -154,6 +154,8 @@ at_end file n table₀ table at r s room h =
       end_within = all_read.within;
       entered = all_read.entered;
       bodies = all_read.bodies;
+      ranks = ranks_are file n table₀ table at n (rules_in n (drop 10 file)) all_read room;
+      small = ranks_small file n table₀ table at n (rules_in n (drop 10 file)) all_read room;
     }
   where
     same : r ≡ n

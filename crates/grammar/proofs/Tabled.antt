@@ -1,7 +1,7 @@
 -- A rule of a file that was read, by the two tables: its size, and what stands before each of its parameters.
 use Prim.Native.Nat.{ℕ, suc, ◌*◌, ◌-◌, ◌/◌, ◌<◌}
-use mathlib.Core.Path.{◌≡◌, sym, ap, ◌∙◌}
-use mathlib.Core.Bool.{true}
+use mathlib.Core.Path.{◌≡◌, refl, sym, ap, ◌∙◌}
+use mathlib.Core.Bool.{true, false}
 use mathlib.Core.List.{List, [], ◌++◌, append_assoc, append-nil}
 use native.Mathlib.Omega.{arith}
 use lib.Dec.{T}
@@ -24,6 +24,10 @@ use Rattle.grammar.proofs.Entered.{BytesOf, ranks_below}
 use Rattle.grammar.proofs.Entered.{count as all_count}
 use Rattle.grammar.proofs.Agreeing.{Below, sum_same, before_same}
 use Rattle.grammar.proofs.GapsFound.{SoFar, passed, before_there}
+
+some_there : (k : Option ℕ) → (k ≡ None → ⊥) → is_some k ≡ true
+some_there None z = absurd (z refl)
+some_there (Some n) z = refl
 
 module _ {R : List Rule} {file : List ℕ} {rules : List Entry} (M : Laid R file rules) (r : ℕ) (below : r < length rules) where
   pub count : r < length R
@@ -64,6 +68,13 @@ module _ {R : List Rule} {file : List ℕ} {rules : List Entry} (M : Laid R file
       pub parameter_is : (w : ℕ) (k : Option ℕ) → w ≡ word_in bytes (2 * i) → k ≡ when_parameter {A = Option ℕ} None (λ i. Some i) w
           → is_parameter (get_or (body_at R r) i 0) ≡ is_some k
       parameter_is w k is number = ap is_parameter (word_there ∙ sym is) ∙ is_some_parameter w ∙ ap is_some (sym number)
+
+      module _ (w : ℕ) (k : Option ℕ) (is : w ≡ word_in bytes (2 * i)) (number : k ≡ when_parameter {A = Option ℕ} None (λ i. Some i) w) where
+        pub is_other : k ≡ None → is_parameter (get_or (body_at R r) i 0) ≡ false
+        is_other z = parameter_is w k is number ∙ ap is_some z
+
+        pub is_parameter_lem : (k ≡ None → ⊥) → is_parameter (get_or (body_at R r) i 0) ≡ true
+        is_parameter_lem z = parameter_is w k is number ∙ some_there k z
 
       pub before_found : (len last m : ℕ) (sizes : List ℕ) → SoFar R r len i last m sizes → is_parameter (get_or (body_at R r) i 0) ≡ true
           → (b : ℕ) → b ≡ before_by (rank_of (ranks_in (take r rules))) sizes (words_in (take (2 * i) bytes)) → b ≡ size_before (suc (passed R r i)) (get_or (expansions R) r [])

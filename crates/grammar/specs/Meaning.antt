@@ -149,6 +149,8 @@ pub record RulesTaken (end n : ℕ) (file : List ℕ) (before after : List Entry
   pub end_within : end ≤ length file
   pub entered : after ≡ sets before 0 (entries 18 (rules_in n (drop 10 file)))
   pub bodies : Bodies file 18 (rules_in n (drop 10 file))
+  pub ranks : ranks_in (take n after) ≡ ranks_of (rules_in n (drop 10 file))
+  pub small : RanksSmall (take n after)
 
 abbrev pub RulesRead : Outcome ℕ Refused → ℕ → List ℕ → List Entry → List Entry → Type 0
 RulesRead (Ok end) n file before after = RulesTaken end n file before after

@@ -6,9 +6,9 @@ use Rattle.model.specs.Bounds.{largest_size}
 use Rattle.model.specs.Words.{class_of}
 use Rattle.model.specs.Trees.{Rule, gap_sizes, size, expansions, lowest_huge}
 use Rattle.model.specs.Refusals.{Result, taken, refused}
-use Rattle.model.specs.File.{read}
+use Rattle.model.specs.File.{read, read_whole}
 use Rattle.laws.specs.Formed.{formed}
-use Rattle.grammar.specs.Meaning.{written_rules, entries, Bodies, place_after, padded, refusal_is, reading_is, reading_of, rule_table}
+use Rattle.grammar.specs.Meaning.{written_rules, entries, no_rule, Bodies, place_after, padded, refusal_is, reading_is, reading_of, rule_table}
 use Rattle.grammar.specs.declared.refusals.Refused.{Refused}
 use Rattle.grammar.specs.declared.refusals.Refusal.TheVariants.{Huge}
 use Rattle.grammar.specs.declared.rules.Entry.{Entry}
@@ -86,10 +86,16 @@ pub record ReadIs (file : List ℕ) (r : Outcome ℕ Refused) (m : Result (List 
   pub gaps : sizes' ≡ size_table (length sizes) m
   pub stands : Stand file m
 
--- The same where the tables were all 0 before; refused, they hold what was read before the refusal.
-abbrev pub ReadInto : List ℕ → Outcome ℕ Refused → Result (List Rule) → List Entry → List Entry → List ℕ → List ℕ → Type 0
-ReadInto file (Ok n) m table table' sizes sizes' = ReadIs file (Ok n) m table table' sizes sizes'
-ReadInto file (Err x) m table table' sizes sizes' = m ≡ refused (refusal_is x.refusal) x.place
+-- What reading the records after the head leaves in a rule table of 0: the rules of a file that ends with them, or the model's refusal.
+abbrev pub RecordsRead : {A : Type 0} → Outcome A Refused → ℕ → List ℕ → List Entry → List Entry → Type 0
+RecordsRead (Ok a) n file table table' =
+    (read file ≡ read_whole (written_rules file) []) × Measurable file (take n table') × (table' ≡ padded no_rule (length table) (entries 18 (written_rules file)))
+RecordsRead (Err x) n file table table' = read file ≡ refused (refusal_is x.refusal) x.place
+
+-- What measuring the whole leaves in a size table of 0: the gaps of a grammar that is taken, or the model's refusal.
+abbrev pub WholeIs : {A : Type 0} → Outcome A Refused → List Rule → List ℕ → List ℕ → Type 0
+WholeIs (Ok a) rules sizes sizes' = (read_whole rules [] ≡ taken rules) × (sizes' ≡ padded 0 (length sizes) (gap_rows (expansions rules)))
+WholeIs (Err x) rules sizes sizes' = read_whole rules [] ≡ refused (refusal_is x.refusal) x.place
 
 -- A file that is taken denotes a grammar of the model: the rules, where their bodies stand, and the two tables on them. The layers above build on this, and on nothing that reading does on the way.
 pub record Denotes (file : List ℕ) (table : List Entry) (sizes : List ℕ) : Type 0 where
