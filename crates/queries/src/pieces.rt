@@ -37,7 +37,7 @@ impl From<u16> for Piece {
 
 // A word of a body that is open: how many of its gaps are still due, one or more, and the next of them. What has no gaps has 1,280, which no rule has.
 // One number holds both: 2048 times how many, and the next, which is below 2048. All 8,192 places for open words are set at each query, whatever the file: two fields,
-// `due: u8` and `next: u16`, take 4 bytes for 2, which are 16,384 bytes more to set and of stack, a good part of the time of a query in a small file.
+// `due: u8` and `next: u16`, take 4 bytes for its 2, so that 16,384 bytes more are set, and a label or a window of a small file takes about a quarter more time.
 #[derive(Clone, Copy, Default)]
 pub(crate) struct Open(u16);
 
@@ -78,7 +78,7 @@ impl Open {
 // The gap strings of the rules of a grammar, from the lowest up: the pieces of all their gaps, and where those of each gap start. The sizes are the grammar's.
 // Two tables by gap, and not one: document 01's size table is what `read` fills. Starts are places in one vector of pieces, as there is no heap for a list for each gap.
 // `sizes_kept` and `starts_kept` say what a method leaves alone, which a caller of `&mut self` knows by the contract only; with the sizes out of the struct, they would
-// go along as a parameter of four methods and of `walk` instead.
+// go along as a parameter of five methods and of `walk` instead.
 #[derive(Drop)]
 pub(crate) struct GapStrings<'a> {
     pub(crate) sizes: &'a [u64],
@@ -86,7 +86,7 @@ pub(crate) struct GapStrings<'a> {
     pub(crate) pieces: ArrayVec<u16, 16384>,
 }
 
-impl<'a> GapStrings<'a> {
+impl GapStrings<'_> {
     // The gaps of all these rules of the file as pieces, where there are none yet. Puts them into what is lent, since a struct that is returned may be copied whole.
     pub(crate) fn spell_all(&mut self, file: &[u8], rules: &[Entry])
         requires { Denotes file.now rules.now self.old.sizes.now × (self.old.pieces.items ≡ []) × (self.old.starts ≡ replicate 1280 0) }
