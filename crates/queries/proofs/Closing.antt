@@ -16,7 +16,7 @@ use Rattle.std.proofs.lemmas.List.Elements.{All-append, All-cons, All-nil, All-p
 use Rattle.std.proofs.lemmas.List.Sums.{sum_by-append, sum_by-cons}
 use Rattle.model.specs.Trees.{join}
 use Rattle.queries.specs.declared.pieces.Open.{Open}
-use Rattle.queries.specs.Pieces.{Part, Spelled, code_for, GapStands, after, filling, closing_over, closing, Entry, Entries, wanted, all_wanted, Closes, Closable, between}
+use Rattle.queries.specs.Pieces.{Part, Spelled, code_for, GapStands, after, filling, due, next_gap, closing_over, closing, Entry, Entries, wanted, all_wanted, Closes, Closable, between}
 use Rattle.queries.proofs.Spelling.{PieceFor, piece_for, part_nil, part_join, part_agree, part_put, code_none, append_agree, length_put, spelled_agree}
 
 pub after_ext : (f f' : List (List ℕ) → List ℕ) → ((ts : List (List ℕ)) → f' ts ≡ f ts) → (ts : List (List ℕ)) → after f' ts ≡ after f ts
@@ -25,9 +25,9 @@ after_ext f f' e (t ∷ ts) = ap (λ l. t ++ l) (e ts)
 
 -- one more word is open
 pub closing_put : (G : ℕ → List ℕ) (f : List (List ℕ) → List ℕ) (O : List Open) (e : Open) (ts : List (List ℕ))
-    → closing_over G f (O ++ e ∷ []) ts ≡ filling G e.next e.due (closing_over G f O) ts
+    → closing_over G f (O ++ e ∷ []) ts ≡ filling G (next_gap e) (due e) (closing_over G f O) ts
 closing_put G f [] e ts = refl
-closing_put G f (o ∷ O) e ts = closing_put G (filling G o.next o.due f) O e ts
+closing_put G f (o ∷ O) e ts = closing_put G (filling G (next_gap o) (due o) f) O e ts
 
 -- with nothing open, trees follow one after the other
 pub closing_none : (G : ℕ → List ℕ) (ts : List (List ℕ)) → closing G [] ts ≡ after (closing G []) ts
@@ -44,14 +44,14 @@ between_filling G g (suc k) f (t ∷ ts) h =
     e ∙ ap (λ l. G g ++ (t ++ l)) (between_filling G (suc g) k f ts (omega arith))
 
 -- the last gap of the lowest open word, and one before the last
-pub closing_last : (G : ℕ → List ℕ) (O : List Open) (e : Open) → e.due ≡ 1 → (ts : List (List ℕ)) → closing G (O ++ e ∷ []) ts ≡ G e.next ++ closing G O ts
-closing_last G O e h ts = closing_put G join O e ts ∙ ap (λ n. filling G e.next n (closing G O) ts) h
+pub closing_last : (G : ℕ → List ℕ) (O : List Open) (e : Open) → due e ≡ 1 → (ts : List (List ℕ)) → closing G (O ++ e ∷ []) ts ≡ G (next_gap e) ++ closing G O ts
+closing_last G O e h ts = closing_put G join O e ts ∙ ap (λ n. filling G (next_gap e) n (closing G O) ts) h
 
-pub closing_next : (G : ℕ → List ℕ) (O : List Open) (e e' : Open) (m : ℕ) → e.due ≡ suc (suc m) → e'.next ≡ suc e.next → e'.due ≡ suc m
-    → (ts : List (List ℕ)) → closing G (O ++ e ∷ []) ts ≡ G e.next ++ after (closing G (O ++ e' ∷ [])) ts
+pub closing_next : (G : ℕ → List ℕ) (O : List Open) (e e' : Open) (m : ℕ) → due e ≡ suc (suc m) → next_gap e' ≡ suc (next_gap e) → due e' ≡ suc m
+    → (ts : List (List ℕ)) → closing G (O ++ e ∷ []) ts ≡ G (next_gap e) ++ after (closing G (O ++ e' ∷ [])) ts
 closing_next G O e e' m h f n ts =
-    closing_put G join O e ts ∙ ap (λ n. filling G e.next n (closing G O) ts) h
-    ∙ ap (λ l. G e.next ++ l) (after_ext (closing G (O ++ e' ∷ [])) (filling G (suc e.next) (suc m) (closing G O))
+    closing_put G join O e ts ∙ ap (λ n. filling G (next_gap e) n (closing G O) ts) h
+    ∙ ap (λ l. G (next_gap e) ++ l) (after_ext (closing G (O ++ e' ∷ [])) (filling G (suc (next_gap e)) (suc m) (closing G O))
     (λ ts. sym (closing_put G join O e' ts ∙ ap₂ (λ g n. filling G g n (closing G O) ts) f n)) ts)
 
 pub wanted_put : (O : List Open) (e : Open) → all_wanted (O ++ e ∷ []) ≡ all_wanted O + wanted e
@@ -74,32 +74,32 @@ put_short P (Some c) = omega (arith, length_put P c)
 pub put_grows : (P : List ℕ) (o : Option ℕ) → length P ≤ length (P ++ option_to_list o)
 put_grows P o = omega (arith, length-append P (option_to_list o))
 
-wanted_some : (e : Open) → e.next < 1280 → wanted e ≡ e.due
-wanted_some e h = rw (lt-leb 1280 e.next h)
+wanted_some : (e : Open) → next_gap e < 1280 → wanted e ≡ due e
+wanted_some e h = rw (lt-leb 1280 (next_gap e) h)
 
-wanted_none : (e : Open) → 1280 ≤ e.next → wanted e ≡ 0
-wanted_none e h = rw (le-leb 1280 e.next h)
+wanted_none : (e : Open) → 1280 ≤ next_gap e → wanted e ≡ 0
+wanted_none e h = rw (le-leb 1280 (next_gap e) h)
 
-put_room : (sizes S P : List ℕ) (e : Open) → 1 ≤ e.due → length (P ++ option_to_list (code_for sizes S P e.next)) ≤ length P + wanted e
-put_room sizes S P e h = go (leb 1280 e.next) refl
+put_room : (sizes S P : List ℕ) (e : Open) → 1 ≤ due e → length (P ++ option_to_list (code_for sizes S P (next_gap e))) ≤ length P + wanted e
+put_room sizes S P e h = go (leb 1280 (next_gap e)) refl
   where
-    go : (b : Bool) → leb 1280 e.next ≡ b → length (P ++ option_to_list (code_for sizes S P e.next)) ≤ length P + wanted e
+    go : (b : Bool) → leb 1280 (next_gap e) ≡ b → length (P ++ option_to_list (code_for sizes S P (next_gap e))) ≤ length P + wanted e
     go true q =
-        let z : length (P ++ option_to_list (code_for sizes S P e.next)) ≡ length P = rw (code_none sizes S P e.next (leb-true 1280 e.next q), append-nil P) in
+        let z : length (P ++ option_to_list (code_for sizes S P (next_gap e))) ≡ length P = rw (code_none sizes S P (next_gap e) (leb-true 1280 (next_gap e) q), append-nil P) in
         omega arith
-    go false q = omega (arith, put_short P (code_for sizes S P e.next), wanted_some e (leb-false 1280 e.next q))
+    go false q = omega (arith, put_short P (code_for sizes S P (next_gap e)), wanted_some e (leb-false 1280 (next_gap e) q))
 
-put_room_next : (sizes S P : List ℕ) (e e' : Open) → e'.next ≡ suc e.next → suc e'.due ≡ e.due
-    → length (P ++ option_to_list (code_for sizes S P e.next)) + wanted e' ≤ length P + wanted e
-put_room_next sizes S P e e' f h = go (leb 1280 e.next) refl (leb 1280 e'.next) refl
+put_room_next : (sizes S P : List ℕ) (e e' : Open) → next_gap e' ≡ suc (next_gap e) → suc (due e') ≡ due e
+    → length (P ++ option_to_list (code_for sizes S P (next_gap e))) + wanted e' ≤ length P + wanted e
+put_room_next sizes S P e e' f h = go (leb 1280 (next_gap e)) refl (leb 1280 (next_gap e')) refl
   where
-    go : (b : Bool) → leb 1280 e.next ≡ b → (b' : Bool) → leb 1280 e'.next ≡ b' → length (P ++ option_to_list (code_for sizes S P e.next)) + wanted e' ≤ length P + wanted e
+    go : (b : Bool) → leb 1280 (next_gap e) ≡ b → (b' : Bool) → leb 1280 (next_gap e') ≡ b' → length (P ++ option_to_list (code_for sizes S P (next_gap e))) + wanted e' ≤ length P + wanted e
     go true q b' q' =
-        let k = leb-true 1280 e.next q in
-        let z : length (P ++ option_to_list (code_for sizes S P e.next)) ≡ length P = rw (code_none sizes S P e.next k, append-nil P) in
+        let k = leb-true 1280 (next_gap e) q in
+        let z : length (P ++ option_to_list (code_for sizes S P (next_gap e))) ≡ length P = rw (code_none sizes S P (next_gap e) k, append-nil P) in
         omega (arith, wanted_none e' (omega arith))
-    go false q true q' = omega (arith, put_short P (code_for sizes S P e.next), wanted_some e (leb-false 1280 e.next q), wanted_none e' (leb-true 1280 e'.next q'))
-    go false q false q' = omega (arith, put_short P (code_for sizes S P e.next), wanted_some e (leb-false 1280 e.next q), wanted_some e' (leb-false 1280 e'.next q'))
+    go false q true q' = omega (arith, put_short P (code_for sizes S P (next_gap e)), wanted_some e (leb-false 1280 (next_gap e) q), wanted_none e' (leb-true 1280 (next_gap e') q'))
+    go false q false q' = omega (arith, put_short P (code_for sizes S P (next_gap e)), wanted_some e (leb-false 1280 (next_gap e) q), wanted_some e' (leb-false 1280 (next_gap e') q'))
 
 abbrev pub Now : (List (List ℕ) → List ℕ) → List (List ℕ) → List ℕ
 Now f ts = f ts
@@ -128,48 +128,48 @@ closes_end x =
           (y.0, y.1, λ ts. y.2 ts ∙ ap (λ l. y.0 ++ l) (closing_none G ts));
     }
 
-pub entry_gap : (r : ℕ) (e : Open) → Entry r e → (e.next < 5 * r) ⊎ (1280 ≤ e.next)
+pub entry_gap : (r : ℕ) (e : Open) → Entry r e → (next_gap e < 5 * r) ⊎ (1280 ≤ next_gap e)
 entry_gap r e x = go x.1
   where
-    go : ((e.next + e.due ≤ 5 * r) ⊎ ((1280 ≤ e.next) × (e.next + e.due ≤ 1283))) → (e.next < 5 * r) ⊎ (1280 ≤ e.next)
+    go : ((next_gap e + due e ≤ 5 * r) ⊎ ((1280 ≤ next_gap e) × (next_gap e + due e ≤ 1283))) → (next_gap e < 5 * r) ⊎ (1280 ≤ next_gap e)
     go (inl h) = inl (let k = x.0 in omega arith)
     go (inr h) = inr h.0
 
-pub entry_small : (r : ℕ) (e : Open) → r ≤ 256 → Entry r e → e.next < 65535
+pub entry_small : (r : ℕ) (e : Open) → r ≤ 256 → Entry r e → next_gap e < 2047
 entry_small r e l x = go x.1
   where
-    go : ((e.next + e.due ≤ 5 * r) ⊎ ((1280 ≤ e.next) × (e.next + e.due ≤ 1283))) → e.next < 65535
+    go : ((next_gap e + due e ≤ 5 * r) ⊎ ((1280 ≤ next_gap e) × (next_gap e + due e ≤ 1283))) → next_gap e < 2047
     go (inl h) = omega arith
     go (inr h) = omega (arith, h.1)
 
-pub entry_next : (r : ℕ) (e e' : Open) → Entry r e → e'.next ≡ suc e.next → suc e'.due ≡ e.due → 1 ≤ e'.due → Entry r e'
+pub entry_next : (r : ℕ) (e e' : Open) → Entry r e → next_gap e' ≡ suc (next_gap e) → suc (due e') ≡ due e → 1 ≤ due e' → Entry r e'
 entry_next r e e' x f h k = (k, go x.1)
   where
-    go : ((e.next + e.due ≤ 5 * r) ⊎ ((1280 ≤ e.next) × (e.next + e.due ≤ 1283)))
-        → (e'.next + e'.due ≤ 5 * r) ⊎ ((1280 ≤ e'.next) × (e'.next + e'.due ≤ 1283))
+    go : ((next_gap e + due e ≤ 5 * r) ⊎ ((1280 ≤ next_gap e) × (next_gap e + due e ≤ 1283)))
+        → (next_gap e' + due e' ≤ 5 * r) ⊎ ((1280 ≤ next_gap e') × (next_gap e' + due e' ≤ 1283))
     go (inl l) = inl (omega arith)
     go (inr l) = inr (omega arith, omega arith)
 
 -- one turn of closing: of the open words the lowest was taken, e, and O are the others
-module _ {S sizes P₀ P : List ℕ} {O₀ : List Open} (O : List Open) (e : Open) (x : Closes Now S sizes P₀ O₀ P (O ++ e ∷ [])) (some : 1 ≤ e.due) where
+module _ {S sizes P₀ P : List ℕ} {O₀ : List Open} (O : List Open) (e : Open) (x : Closes Now S sizes P₀ O₀ P (O ++ e ∷ [])) (some : 1 ≤ due e) where
   -- what is put for its next gap
   put_says : (G : ℕ → List ℕ) (r base : ℕ) → Spelled G r base P₀ S sizes → r ≤ 256 → base ≤ length P₀ → Entries r O₀
-      → (us : List ℕ) × Part G (P ++ option_to_list (code_for sizes S P e.next)) r (length P₀) (length (P ++ option_to_list (code_for sizes S P e.next))) (us ++ G e.next) × ((ts : List (List ℕ)) → closing G O₀ ts ≡ us ++ closing G (O ++ e ∷ []) ts)
+      → (us : List ℕ) × Part G (P ++ option_to_list (code_for sizes S P (next_gap e))) r (length P₀) (length (P ++ option_to_list (code_for sizes S P (next_gap e)))) (us ++ G (next_gap e)) × ((ts : List (List ℕ)) → closing G O₀ ts ≡ us ++ closing G (O ++ e ∷ []) ts)
   put_says G r base s small h a =
       let y = x.says G r base s small h a in
       let g = x.grown in
       let s' : Spelled G r base P S sizes = spelled_agree P S base (omega arith) (λ j k. x.kept j (omega arith)) (λ g k. refl) s in
-      let q : PieceFor G r e.next (code_for sizes S P e.next) = piece_for s' small e.next (entry_gap r e (entries_pop r O e (x.entries r a)).1) in
-      (y.0, part_join (part_agree (P ++ option_to_list (code_for sizes S P e.next)) (append_agree P (option_to_list (code_for sizes S P e.next))) y.1) (part_put P q), y.2)
+      let q : PieceFor G r (next_gap e) (code_for sizes S P (next_gap e)) = piece_for s' small (next_gap e) (entry_gap r e (entries_pop r O e (x.entries r a)).1) in
+      (y.0, part_join (part_agree (P ++ option_to_list (code_for sizes S P (next_gap e))) (append_agree P (option_to_list (code_for sizes S P (next_gap e)))) y.1) (part_put P q), y.2)
 
-  kept_put : (j : ℕ) → j < length P₀ → get_or (P ++ option_to_list (code_for sizes S P e.next)) j 0 ≡ get_or P₀ j 0
-  kept_put j h = let k = x.grown in append_agree P (option_to_list (code_for sizes S P e.next)) j (omega arith) ∙ x.kept j h
+  kept_put : (j : ℕ) → j < length P₀ → get_or (P ++ option_to_list (code_for sizes S P (next_gap e))) j 0 ≡ get_or P₀ j 0
+  kept_put j h = let k = x.grown in append_agree P (option_to_list (code_for sizes S P (next_gap e))) j (omega arith) ∙ x.kept j h
 
-  grown_put : length P₀ ≤ length (P ++ option_to_list (code_for sizes S P e.next))
-  grown_put = omega (arith, x.grown, put_grows P (code_for sizes S P e.next))
+  grown_put : length P₀ ≤ length (P ++ option_to_list (code_for sizes S P (next_gap e)))
+  grown_put = omega (arith, x.grown, put_grows P (code_for sizes S P (next_gap e)))
 
   -- it was its last
-  pub closes_last : e.due ≡ 1 → Closes Now S sizes P₀ O₀ (P ++ option_to_list (code_for sizes S P e.next)) O
+  pub closes_last : due e ≡ 1 → Closes Now S sizes P₀ O₀ (P ++ option_to_list (code_for sizes S P (next_gap e))) O
   closes_last last =
       record {
         kept = kept_put;
@@ -179,11 +179,11 @@ module _ {S sizes P₀ P : List ℕ} {O₀ : List Open} (O : List Open) (e : Ope
         entries = λ r a. (entries_pop r O e (x.entries r a)).0;
         says = λ G r base s small h a.
             let y = put_says G r base s small h a in
-            (y.0 ++ G e.next, y.1, λ ts. y.2 ts ∙ ap (λ l. y.0 ++ l) (closing_last G O e last ts) ∙ sym (append_assoc y.0 (G e.next) (closing G O ts)));
+            (y.0 ++ G (next_gap e), y.1, λ ts. y.2 ts ∙ ap (λ l. y.0 ++ l) (closing_last G O e last ts) ∙ sym (append_assoc y.0 (G (next_gap e)) (closing G O ts)));
       }
 
   -- it has another
-  pub closes_next : (e' : Open) → e'.next ≡ suc e.next → suc e'.due ≡ e.due → 1 ≤ e'.due → Closes after S sizes P₀ O₀ (P ++ option_to_list (code_for sizes S P e.next)) (O ++ e' ∷ [])
+  pub closes_next : (e' : Open) → next_gap e' ≡ suc (next_gap e) → suc (due e') ≡ due e → 1 ≤ due e' → Closes after S sizes P₀ O₀ (P ++ option_to_list (code_for sizes S P (next_gap e))) (O ++ e' ∷ [])
   closes_next e' f n m =
       record {
         kept = kept_put;
@@ -193,10 +193,10 @@ module _ {S sizes P₀ P : List ℕ} {O₀ : List Open} (O : List Open) (e : Ope
         entries = λ r a. let q = entries_pop r O e (x.entries r a) in entries_put r O e' q.0 (entry_next r e e' q.1 f n m);
         says = λ G r base s small h a.
             let y = put_says G r base s small h a in (
-              y.0 ++ G e.next,
+              y.0 ++ G (next_gap e),
               y.1,
-              λ ts. y.2 ts ∙ ap (λ l. y.0 ++ l) (closing_next G O e e' (e'.due - 1) (omega arith) f (omega arith) ts)
-                  ∙ sym (append_assoc y.0 (G e.next) (after (closing G (O ++ e' ∷ [])) ts)),
+              λ ts. y.2 ts ∙ ap (λ l. y.0 ++ l) (closing_next G O e e' (due e' - 1) (omega arith) f (omega arith) ts)
+                  ∙ sym (append_assoc y.0 (G (next_gap e)) (after (closing G (O ++ e' ∷ [])) ts)),
             );
       }
 
@@ -245,48 +245,48 @@ module _ {S sizes P₀ P : List ℕ} {O₀ O₁ : List Open} (O : List Open) (e 
   turn_entry : Entry C.rules e
   turn_entry = (entries_pop C.rules O e (taken.entries C.rules C.entries)).1
 
-  turn_low : e.next < 1280 → 1 ≤ get_or sizes e.next 0 → get_or S e.next 0 + 1 < length P
+  turn_low : next_gap e < 1280 → 1 ≤ get_or sizes (next_gap e) 0 → get_or S (next_gap e) 0 + 1 < length P
   turn_low h k = go (entry_gap C.rules e turn_entry)
     where
-      go : (e.next < 5 * C.rules) ⊎ (1280 ≤ e.next) → get_or S e.next 0 + 1 < length P
-      go (inl l) = omega (arith, C.low e.next l k, x.grown)
+      go : (next_gap e < 5 * C.rules) ⊎ (1280 ≤ next_gap e) → get_or S (next_gap e) 0 + 1 < length P
+      go (inl l) = omega (arith, C.low (next_gap e) l k, x.grown)
       go (inr l) = absurd (omega arith)
 
-  pub turn_small : e.next < 65535
+  pub turn_small : next_gap e < 2047
   turn_small = entry_small C.rules e C.few turn_entry
 
   module _ (S' sizes' : List ℕ) (starts_kept : S' ≡ S) (sizes_kept : sizes' ≡ sizes) where
-    pub turn_asks : GapStands sizes' S' P e.next
+    pub turn_asks : GapStands sizes' S' P (next_gap e)
     turn_asks = (
       omega (arith, C.wide, ap length sizes_kept),
       λ h k.
-          let s : get_or S' e.next 0 ≡ get_or S e.next 0 = ap (λ (l : List ℕ). get_or l e.next 0) starts_kept in
-          let z : get_or sizes' e.next 0 ≡ get_or sizes e.next 0 = ap (λ (l : List ℕ). get_or l e.next 0) sizes_kept in
+          let s : get_or S' (next_gap e) 0 ≡ get_or S (next_gap e) 0 = ap (λ (l : List ℕ). get_or l (next_gap e) 0) starts_kept in
+          let z : get_or sizes' (next_gap e) 0 ≡ get_or sizes (next_gap e) 0 = ap (λ (l : List ℕ). get_or l (next_gap e) 0) sizes_kept in
           omega (arith, turn_low h (omega arith)),
     )
 
-    module _ (o : Option ℕ) (is : o ≡ code_for sizes' S' P e.next) where
-      piece_is : code_for sizes S P e.next ≡ o
-      piece_is = ap₂ (λ (z s : List ℕ). code_for z s P e.next) (sym sizes_kept) (sym starts_kept) ∙ sym is
+    module _ (o : Option ℕ) (is : o ≡ code_for sizes' S' P (next_gap e)) where
+      piece_is : code_for sizes S P (next_gap e) ≡ o
+      piece_is = ap₂ (λ (z s : List ℕ). code_for z s P (next_gap e)) (sym sizes_kept) (sym starts_kept) ∙ sym is
 
       pub turn_room : IsSome o → length P < 16384
-      turn_room n = go (leb 1280 e.next) refl
+      turn_room n = go (leb 1280 (next_gap e)) refl
         where
-          go : (b : Bool) → leb 1280 e.next ≡ b → length P < 16384
+          go : (b : Bool) → leb 1280 (next_gap e) ≡ b → length P < 16384
           go true q =
-              let f : false ≡ true = ap is_some (sym (code_none sizes S P e.next (leb-true 1280 e.next q)) ∙ piece_is) ∙ n in
+              let f : false ≡ true = ap is_some (sym (code_none sizes S P (next_gap e) (leb-true 1280 (next_gap e) q)) ∙ piece_is) ∙ n in
               absurd (let z : ⊥ = cc in z)
-          go false q = omega (arith, wanted_some e (leb-false 1280 e.next q), wanted_put O e, turn_entry.0, taken.room, C.room)
+          go false q = omega (arith, wanted_some e (leb-false 1280 (next_gap e) q), wanted_put O e, turn_entry.0, taken.room, C.room)
 
       module _ (P' : List ℕ) (put : P' ≡ P ++ option_to_list o) where
-        put_is : P ++ option_to_list (code_for sizes S P e.next) ≡ P'
+        put_is : P ++ option_to_list (code_for sizes S P (next_gap e)) ≡ P'
         put_is = ap (λ (v : Option ℕ). P ++ option_to_list v) piece_is ∙ sym put
 
-        pub turn_last : e.due ≤ 1 → Closes Now S sizes P₀ O₀ P' O
+        pub turn_last : due e ≤ 1 → Closes Now S sizes P₀ O₀ P' O
         turn_last l = subst (λ (p : List ℕ). Closes Now S sizes P₀ O₀ p O) put_is (closes_last O e taken turn_entry.0 (omega (arith, turn_entry.0)))
 
-        pub turn_next : (e' : Open) → e'.next ≡ suc e.next → suc e'.due ≡ e.due → 1 ≤ e'.due → (O' : List Open) → O' ≡ O ++ e' ∷ [] → Closes after S sizes P₀ O₀ P' O'
+        pub turn_next : (e' : Open) → next_gap e' ≡ suc (next_gap e) → suc (due e') ≡ due e → 1 ≤ due e' → (O' : List Open) → O' ≡ O ++ e' ∷ [] → Closes after S sizes P₀ O₀ P' O'
         turn_next e' f n m O' o' =
             subst (λ (p : List ℕ). Closes after S sizes P₀ O₀ p O') put_is
-            (subst (λ (os : List Open). Closes after S sizes P₀ O₀ (P ++ option_to_list (code_for sizes S P e.next)) os) (sym o')
+            (subst (λ (os : List Open). Closes after S sizes P₀ O₀ (P ++ option_to_list (code_for sizes S P (next_gap e))) os) (sym o')
             (closes_next O e taken turn_entry.0 e' f n m))

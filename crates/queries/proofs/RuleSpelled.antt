@@ -12,7 +12,7 @@ use borrow.Author.Tests.{ltb-true, ltb-false, eqb-true, eqb-false, lt-ltb}
 use Rattle.model.specs.Words.{Class, empty, label, parameter, call, illegal, class_of, is_parameter}
 use Rattle.model.specs.Trees.{all, join, is_legal}
 use Rattle.queries.specs.declared.pieces.Open.{Open}
-use Rattle.queries.specs.Pieces.{stop, unstopped, up_to, past, past_all, meant, Part, Slice, Spelled, after, filling, closing, Entries, Closes, between, over, own, first_gap, own_gap, own_starts}
+use Rattle.queries.specs.Pieces.{stop, unstopped, up_to, past, past_all, meant, Part, Slice, Spelled, after, filling, due, next_gap, closing, Entries, Closes, between, over, own, first_gap, own_gap, own_starts}
 use Rattle.queries.proofs.Stops.{past_past_all, past_all_end, up_to_all, up_to_stop, past_stop, tree_word}
 use Rattle.queries.proofs.Spelling.{Agree, part_nil, part_one, part_join, part_agree, slice_agree, part_plain, append_agree, length_put}
 use Rattle.queries.proofs.Closing.{Now, closing_none, closing_put, between_filling}
@@ -36,7 +36,7 @@ spelling_start G r X P S F e s =
 
 -- a word and what its gaps give
 own_rest : (G : ℕ → List ℕ) (rank : ℕ → ℕ) (w : ℕ) (O : List Open) (e : Open) (F : List (List ℕ)) → rank w ≤ length F
-    → e.next ≡ first_gap w → e.due ≡ suc (rank w)
+    → next_gap e ≡ first_gap w → due e ≡ suc (rank w)
     → over G rank w (take (rank w) F) ++ closing G O (drop (rank w) F) ≡ own w ++ closing G (O ++ e ∷ []) F
 own_rest G rank w O e F h f g =
     append_assoc (own w) (between G (first_gap w) (rank w) (take (rank w) F)) (closing G O (drop (rank w) F))
@@ -98,7 +98,7 @@ module _ (G : ℕ → List ℕ) (r : ℕ) (X : List ℕ) (gap_is : (c : ℕ) →
       }
 
   pub own_step : (rank : ℕ → ℕ) (n w : ℕ) (P S : List ℕ) (O : List Open) (e : Open) (m : ℕ) (F : List (List ℕ)) → T (is_legal n w) → rank w ≤ length F
-      → e.next ≡ first_gap w → e.due ≡ suc (rank w) → (is_parameter w ≡ true → m < 4) → 5 * r + 5 ≤ length S
+      → next_gap e ≡ first_gap w → due e ≡ suc (rank w) → (is_parameter w ≡ true → m < 4) → 5 * r + 5 ≤ length S
       → Spelling after G r X P S O m (over G rank w (take (rank w) F) ∷ drop (rank w) F)
       → Spelling Now G r X (P ++ own w) (own_starts w S (5 * r + m) (length (P ++ own w))) (O ++ e ∷ []) (own_gap w m) F
   own_step rank n w P S O e m F t h f g hm hs x = go (class_of w) refl (x.rest ∙ ap (λ (l : List ℕ). x.words ++ l) (own_rest G rank w O e F h f g))

@@ -15,7 +15,7 @@ use Rattle.grammar.proofs.BodyWords.{body_rest}
 use Rattle.grammar.proofs.Denoted.{ranks_few}
 use Rattle.grammar.proofs.Due as due_trees
 use Rattle.queries.specs.declared.pieces.Open.{Open}
-use Rattle.queries.specs.Pieces.{stop, stopped, Spelled, after, Closes, Closable, first_gap, own, own_gap, own_starts}
+use Rattle.queries.specs.Pieces.{stop, stopped, Spelled, after, due, next_gap, Closes, Closable, first_gap, own, own_gap, own_starts}
 use Rattle.queries.specs.Building.{rules_of, gaps_of, Spelt}
 use Rattle.queries.proofs.HeldRules.{rules_few, words_are, rule_body, rule_within, rule_next, ranks_are, small_ranks, gap_measured, rule_expansion, rule_gaps, body_legal, body_fits, body_room, body_parameters}
 use Rattle.queries.proofs.SpellRule.{Turn, put_fits, start_fits, first_fits, closable, turned, turn_start, end_fits, rule_done}
@@ -83,8 +83,8 @@ module _ {file : List ℕ} {r : ℕ} {rules : List Entry} {sizes : List ℕ} {to
         pub rank_small : k ≤ 4
         rank_small = omega (arith, ke, due_trees.rank_small rules (ranks_few H) w)
 
-        module _ (e : Open) (de : e.due ≡ k + 1) (ge : e.next ≡ first_gap w) where
-          due_is : e.due ≡ suc (rank_of (ranks_of (rules_of file)) w)
+        module _ (e : Open) (de : due e ≡ k + 1) (ge : next_gap e ≡ first_gap w) where
+          due_is : due e ≡ suc (rank_of (ranks_of (rules_of file)) w)
           due_is = omega (arith, rank_is)
 
           -- in the values that the code has

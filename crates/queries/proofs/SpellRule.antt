@@ -17,7 +17,7 @@ use Rattle.laws.proofs.Words.Lists.{all_cons}
 use Rattle.laws.proofs.Trees.Folds.{length_fold}
 use Rattle.laws.proofs.Trees.Fills.{those_in}
 use Rattle.queries.specs.declared.pieces.Open.{Open}
-use Rattle.queries.specs.Pieces.{stop, after, Slice, Spelled, Entry, Entries, all_wanted, Closes, Closable, spelled, over, first_gap, own, own_gap, own_starts, up_to, past_all}
+use Rattle.queries.specs.Pieces.{stop, after, Slice, Spelled, due, next_gap, Entry, Entries, all_wanted, Closes, Closable, spelled, over, first_gap, own, own_gap, own_starts, up_to, past_all}
 use Rattle.queries.proofs.Spelling.{spelled_agree, append_agree, length_put}
 use Rattle.queries.proofs.Closing.{Now, wanted_put, length_open, entries_put}
 use Rattle.queries.proofs.RuleSpelled.{Spelling, spelling_start, own_step, close_step, spelling_end}
@@ -98,7 +98,7 @@ module _ {G : ℕ → List ℕ} {ranks X body : List ℕ} {r top₀ : ℕ} {size
     own_P = own_grown w P
 
     -- the word's own piece is put, and it is open
-    module _ (e : Open) (gap_e : e.next ≡ first_gap w) (due_e : e.due ≡ suc (rank_of ranks w)) where
+    module _ (e : Open) (gap_e : next_gap e ≡ first_gap w) (due_e : due e ≡ suc (rank_of ranks w)) where
       abbrev P₁ : List ℕ
       P₁ = P ++ own w
 

@@ -14,7 +14,7 @@ use Rattle.model.specs.Trees.{those, is_legal}
 use Rattle.laws.proofs.Trees.Legal.{legal_call}
 use Rattle.laws.proofs.Trees.Fills.{those_in, those_out}
 use Rattle.queries.specs.declared.pieces.Open.{Open}
-use Rattle.queries.specs.Pieces.{Entry, wanted, first_gap, own, own_gap, own_starts}
+use Rattle.queries.specs.Pieces.{due, next_gap, Entry, wanted, first_gap, own, own_gap, own_starts}
 
 -- starts that are low stay so with one more that is
 pub starts_low_set : (S : List ℕ) (g t : ℕ) → ((j : ℕ) → get_or S j 0 ≤ t) → (j : ℕ) → get_or (set S g t) j 0 ≤ t
@@ -107,10 +107,10 @@ module _ (w : ℕ) where
       go (call j) e = simp e (omega (arith, legal_call n w j e t))
       go illegal e = simp e (omega arith)
 
-  pub first_entry : (ranks : List ℕ) (r : ℕ) (e : Open) → ((j : ℕ) → get_or ranks j 0 ≤ 4) → r ≤ 256 → T (is_legal r w) → e.next ≡ first_gap w → e.due ≡ suc (rank_of ranks w) → Entry r e
+  pub first_entry : (ranks : List ℕ) (r : ℕ) (e : Open) → ((j : ℕ) → get_or ranks j 0 ≤ 4) → r ≤ 256 → T (is_legal r w) → next_gap e ≡ first_gap w → due e ≡ suc (rank_of ranks w) → Entry r e
   first_entry ranks r e small h t f g = (omega arith, go (class_of w) refl)
     where
-      go : (c : Class) → class_of w ≡ c → (e.next + e.due ≤ 5 * r) ⊎ ((1280 ≤ e.next) × (e.next + e.due ≤ 1283))
+      go : (c : Class) → class_of w ≡ c → (next_gap e + due e ≤ 5 * r) ⊎ ((1280 ≤ next_gap e) × (next_gap e + due e ≤ 1283))
       go (call j) q =
           let a : first_gap w ≡ 5 * j = simp q in
           let b : rank_of ranks w ≡ get_or ranks j 0 = simp q in
@@ -121,12 +121,12 @@ module _ (w : ℕ) where
       go illegal q = let a : first_gap w ≡ 1280 = simp q in let b : rank_of ranks w ≡ 0 = simp q in inr (omega arith, omega arith)
 
   -- the room that a word and its gaps take
-  pub own_room : (ranks : List ℕ) (r : ℕ) (P : List ℕ) (e : Open) → r ≤ 256 → T (is_legal r w) → e.next ≡ first_gap w → e.due ≡ suc (rank_of ranks w)
+  pub own_room : (ranks : List ℕ) (r : ℕ) (P : List ℕ) (e : Open) → r ≤ 256 → T (is_legal r w) → next_gap e ≡ first_gap w → due e ≡ suc (rank_of ranks w)
       → length (P ++ own w) + wanted e ≤ length P + suc (rank_of ranks w)
   own_room ranks r P e h l f g = go (class_of w) refl
     where
       gone : first_gap w ≡ 1280 → wanted e ≡ 0
-      gone a = rw (le-leb 1280 e.next (omega arith))
+      gone a = rw (le-leb 1280 (next_gap e) (omega arith))
 
       more : length (P ++ own w) ≡ length P + length (own w)
       more = length-append P (own w)
@@ -134,8 +134,8 @@ module _ (w : ℕ) where
       go : (c : Class) → class_of w ≡ c → length (P ++ own w) + wanted e ≤ length P + suc (rank_of ranks w)
       go (call j) q =
           let a : first_gap w ≡ 5 * j = simp q in
-          let s : e.next < 1280 = omega (arith, legal_call r w j q l) in
-          let b : wanted e ≡ e.due = rw (lt-leb 1280 e.next s) in
+          let s : next_gap e < 1280 = omega (arith, legal_call r w j q l) in
+          let b : wanted e ≡ due e = rw (lt-leb 1280 (next_gap e) s) in
           let o : length (own w) ≡ 0 = simp q in
           omega (arith, more)
       go empty q = let a : first_gap w ≡ 1280 = simp q in omega (arith, gone a, more, own_short)

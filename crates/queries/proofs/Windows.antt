@@ -2,17 +2,19 @@
 use Prim.Native.Nat.{ℕ, ◌+◌, ◌*◌, ◌-◌, ◌≤◌, ◌<◌}
 use native.Mathlib.Omega.{arith}
 use mathlib.Core.Path.{◌≡◌, refl, sym, ap, ap₂, ◌∙◌}
+use mathlib.Core.Bool.{Bool, true, false}
 use mathlib.Core.List.{List, [], ◌∷◌, map}
-use lib.Dec.{T}
+use lib.Dec.{T, leb}
 use lib.Ieee.Fits.{and_i}
 use lib.ListN.{length, take, drop, get_or, replicate, length-replicate}
-use borrow.Author.Tests.{lt-ltb, le-ltb}
+use lib.Seq.{drop-cons}
+use borrow.Author.Tests.{lt-ltb, le-ltb, leb-true, leb-false}
 use Rattle.model.specs.Words.{by_class, is_tree_word}
 use Rattle.laws.proofs.Words.Classes.{by_explicit}
 use Rattle.model.specs.Trees.{Rule, all, tree_of, nodes, expansions}
 use Rattle.model.specs.Refusals.{Refusal, Result, taken, refused, POSITION}
 use Rattle.model.specs.File.{read}
-use Rattle.model.specs.Answers.{WindowAnswer, accepted, refusal, window_as, window_at}
+use Rattle.model.specs.Answers.{LabelAnswer, WindowAnswer, accepted, refusal, label_as, label_at, window_as, window_at}
 use Rattle.laws.specs.Formed.{Tree}
 use Rattle.laws.proofs.Trees.Grammar.{tree_plain}
 use Rattle.laws.proofs.Words.Lists.{all_cons}
@@ -48,15 +50,15 @@ tree_some [] t = absurd (omega (arith, t.1))
 tree_some (w ∷ ws) t = omega arith
 
 module _ {file : List ℕ} {rules : List Entry} {sizes : List ℕ} (H : Denotes file rules sizes) where
-  pub nothing_spelt : Spelt file 0 rules sizes [] (replicate 1280 0)
-  nothing_spelt =
+  pub nothing_spelt : (P S : List ℕ) → P ≡ [] → S ≡ replicate 1280 0 → Spelt file 0 rules sizes P S
+  nothing_spelt P S p e =
       record {
         held = H;
         spells = record { none = none_over H; plain = plain H; measured = λ g h. absurd (omega arith); slices = λ g h. absurd (omega arith) };
-        long = length-replicate {A = ℕ} 1280 0;
-        low = λ g. omega (arith, zero_at 1280 g);
-        room = λ h. omega (arith, first_place H);
-        fits = omega arith;
+        long = ap length e ∙ length-replicate {A = ℕ} 1280 0;
+        low = λ g. omega (arith, ap (λ (l : List ℕ). get_or l g 0) e, zero_at 1280 g);
+        room = λ h. omega (arith, ap length p, first_place H);
+        fits = omega (arith, ap length p);
       }
 
   start_gap : gaps_of file (5 * (length rules - 1)) ≡ tree_of (rules_of file)
@@ -112,6 +114,28 @@ module _ (file : List ℕ) (p many : ℕ) where
 
     pub window_inside : p + many ≤ nodes rules → window_at file p many ≡ record { answer = accepted 0 0 0; window = take many (drop p (tree_of rules)) }
     window_inside h = ap (window_as p many) e ∙ rw (le-ltb (nodes rules) (p + many) h, window_as)
+
+-- a label is a window of one word
+abbrev pub first_word : WindowAnswer → LabelAnswer
+first_word a = record { answer = a.answer; word = get_or a.window 0 0 }
+
+pub label_window : (file : List ℕ) (p : ℕ) → label_at file p ≡ first_word (window_at file p 1)
+label_window file p = go (read file)
+  where
+    go : (m : Result (List Rule)) → label_as p m ≡ first_word (window_as p 1 m)
+    go (refused x k) = refl
+    go (taken rules) = by (leb (nodes rules) p) refl
+      where
+        by : (b : Bool) → leb (nodes rules) p ≡ b → label_as p (taken rules) ≡ first_word (window_as p 1 (taken rules))
+        by true e =
+            let h = leb-true (nodes rules) p e in
+            let w : window_as p 1 (taken rules) ≡ record { answer = refusal POSITION 0; window = replicate 1 65535 } = rw (lt-ltb (nodes rules) (p + 1) (omega arith), window_as) in
+            rw (e, label_as) (sym (ap first_word w))
+        by false e =
+            let h = leb-false (nodes rules) p e in
+            let w : window_as p 1 (taken rules) ≡ record { answer = accepted 0 0 0; window = take 1 (drop p (tree_of rules)) } = rw (le-ltb (nodes rules) (p + 1) (omega arith), window_as) in
+            let v : get_or (take 1 (drop p (tree_of rules))) 0 0 ≡ get_or (tree_of rules) p 0 = ap (λ (l : List ℕ). get_or (take 1 l) 0 0) (drop-cons (tree_of rules) p 0 h) in
+            rw (e, label_as) (ap (λ (k : ℕ). record { answer = accepted 0 0 0; word = k }) (sym v) ∙ sym (ap first_word w))
 
 reading_refused : (m : Result (List Rule)) (x : Refusal) (k : ℕ) → refused x k ≡ reading_of m → m ≡ refused x k
 reading_refused (taken rules) x k e = absurd (let z : ◌≡◌ {A = ℕ} 0 1 = cc in omega arith)

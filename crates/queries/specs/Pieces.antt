@@ -101,24 +101,31 @@ filling G g zero f ts = f ts
 filling G g (suc zero) f ts = G g ++ f ts
 filling G g (suc (suc n)) f ts = G g ++ after (filling G (suc g) (suc n) f) ts
 
+-- an open word of a body: how many of its gaps are still due, and the next of them; what has no gaps has 1,280, which no rule has
+abbrev pub due : Open → ℕ
+due e = e.0 / 2048
+
+abbrev pub next_gap : Open → ℕ
+next_gap e = e.0 % 2048
+
 -- the words of a body that are open, the lowest last; f follows them
 abbrev pub closing_over : (ℕ → List ℕ) → (List (List ℕ) → List ℕ) → List Open → List (List ℕ) → List ℕ
 closing_over G f [] = f
-closing_over G f (e ∷ es) = closing_over G (filling G e.next e.due f) es
+closing_over G f (e ∷ es) = closing_over G (filling G (next_gap e) (due e) f) es
 
 abbrev pub closing : (ℕ → List ℕ) → List Open → List (List ℕ) → List ℕ
 closing G opens = closing_over G join opens
 
 -- an open word that names gaps of rules below r, or none
 abbrev pub Entry : ℕ → Open → Type 0
-Entry r e = (1 ≤ e.due) × ((e.next + e.due ≤ 5 * r) ⊎ ((1280 ≤ e.next) × (e.next + e.due ≤ 1283)))
+Entry r e = (1 ≤ due e) × ((next_gap e + due e ≤ 5 * r) ⊎ ((1280 ≤ next_gap e) × (next_gap e + due e ≤ 1283)))
 
 abbrev pub Entries : ℕ → List Open → Type 0
 Entries r opens = All (Entry r) opens
 
 -- the pieces that open words may still want
 abbrev pub wanted : Open → ℕ
-wanted e = cond (leb 1280 e.next) 0 e.due
+wanted e = cond (leb 1280 (next_gap e)) 0 (due e)
 
 abbrev pub all_wanted : List Open → ℕ
 all_wanted opens = sum_by wanted opens

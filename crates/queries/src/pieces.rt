@@ -1,8 +1,8 @@
 // A grammar's bodies as gap strings.
-ghost use Rattle.std.specs.Prelude.{◌≡◌, ℕ, suc, ◌+◌, ◌*◌, ◌≤◌, ◌<◌, [], ◌∷◌, ◌++◌, length, IsSome, MatchOption, option_to_list};
+ghost use Rattle.std.specs.Prelude.{◌≡◌, ℕ, suc, ◌+◌, ◌*◌, ◌≤◌, ◌<◌, [], ◌∷◌, ◌++◌, length, replicate, IsSome, MatchOption, option_to_list};
 ghost use Rattle.arrayvec.specs.ArrayVec.{array_vec_len};
 ghost use Rattle.grammar.specs.Measures.{Denotes};
-ghost use Rattle.queries.specs.Pieces.{PieceIs, code_for, GapStands, after, Closes, Closable, first_gap, own, own_gap, own_starts};
+ghost use Rattle.queries.specs.Pieces.{PieceIs, due, next_gap, code_for, GapStands, after, Closes, Closable, first_gap, own, own_gap, own_starts};
 ghost use Rattle.queries.specs.Building.{Spelt};
 
 use arrayvec::ArrayVec;
@@ -36,51 +36,49 @@ impl From<u16> for Piece {
 }
 
 // A word of a body that is open: how many of its gaps are still due, one or more, and the next of them. What has no gaps has 1,280, which no rule has.
+// One number holds both: 2048 times how many, and the next, which is below 2048. All 8,192 places for open words are set at each query, whatever the file: two fields,
+// `due: u8` and `next: u16`, take 4 bytes for its 2, so that 16,384 bytes more are set, and a label or a window of a small file takes about a quarter more time.
 #[derive(Clone, Copy, Default)]
-pub(crate) struct Open {
-    due: u8,
-    next: u16,
-}
+pub(crate) struct Open(u16);
 
 impl Open {
     // A word of a body, of the given rank: all its gaps are due.
     fn new(w: u16, rank: usize) -> Self
         requires { (rank ≤ 4) × (first_gap w ≤ 1280) }
-        ensures { (result.due ≡ rank + 1) × (result.next ≡ first_gap w) }
+        ensures { (due result ≡ rank + 1) × (next_gap result ≡ first_gap w) }
     {
-        let next = match Word::from(w) {
+        let gap = match Word::from(w) {
             Word::Call(j) => 5 * j,
             Word::Empty | Word::Label | Word::Parameter(_) | Word::Illegal => 1280,
         };
-        Open {
-            due: rank as u8 + 1,
-            next,
-        }
+        Open(2048 * (rank as u16 + 1) + gap)
     }
 
     // The gap that is due, where the word has gaps.
     fn gap(self) -> Option<usize>
-        ensures { MatchOption result (1280 ≤ self.next) (λ g. (g ≡ self.next) × (g < 1280)) }
+        ensures { MatchOption result (1280 ≤ next_gap self) (λ g. (g ≡ next_gap self) × (g < 1280)) }
     {
-        (self.next < 1280).then_some(self.next as usize)
+        let g = (self.0 % 2048) as usize;
+        if g < 1280 { Some(g) } else { None }
     }
 
     // The word once that gap is given, where it was not the last.
     fn next(self) -> Option<Self>
-        requires { self.next < 65535 }
-        ensures { MatchOption result (self.due ≤ 1) (λ e. (e.next ≡ suc self.next) × (suc e.due ≡ self.due) × (1 ≤ e.due)) }
+        requires { next_gap self < 2047 }
+        ensures { MatchOption result (due self ≤ 1) (λ e. (next_gap e ≡ suc (next_gap self)) × (suc (due e) ≡ due self) × (1 ≤ due e)) }
     {
-        (1 < self.due).then(|| Open {
-            due: self.due - 1,
-            next: self.next + 1,
-        })
+        if 4096 <= self.0 {
+            Some(Open(self.0 - 2047))
+        } else {
+            None
+        }
     }
 }
 
 // The gap strings of the rules of a grammar, from the lowest up: the pieces of all their gaps, and where those of each gap start. The sizes are the grammar's.
 // Two tables by gap, and not one: document 01's size table is what `read` fills. Starts are places in one vector of pieces, as there is no heap for a list for each gap.
 // `sizes_kept` and `starts_kept` say what a method leaves alone, which a caller of `&mut self` knows by the contract only; with the sizes out of the struct, they would
-// go along as a parameter of four methods and of `walk` instead.
+// go along as a parameter of five methods and of `walk` instead.
 #[derive(Drop)]
 pub(crate) struct GapStrings<'a> {
     pub(crate) sizes: &'a [u64],
@@ -88,23 +86,17 @@ pub(crate) struct GapStrings<'a> {
     pub(crate) pieces: ArrayVec<u16, 16384>,
 }
 
-impl<'a> GapStrings<'a> {
-    // The gaps of all these rules of the file as pieces.
-    pub(crate) fn new(file: &[u8], rules: &[Entry], sizes: &'a [u64]) -> Self
-        requires { Denotes file.now rules.now sizes.now }
-        ensures spelt { Spelt file.now (length rules.now) rules.now result.sizes.now result.pieces.items result.starts }
-        ensures sizes_kept { result.sizes.now ≡ sizes.now }
+impl GapStrings<'_> {
+    // The gaps of all these rules of the file as pieces, where there are none yet. Puts them into what is lent, since a struct that is returned may be copied whole.
+    pub(crate) fn spell_all(&mut self, file: &[u8], rules: &[Entry])
+        requires { Denotes file.now rules.now self.old.sizes.now × (self.old.pieces.items ≡ []) × (self.old.starts ≡ replicate 1280 0) }
+        ensures spelt { Spelt file.now (length rules.now) rules.now self.new.sizes.now self.new.pieces.items self.new.starts }
+        ensures sizes_kept { self.new.sizes.now ≡ self.old.sizes.now }
     {
-        let mut strings = GapStrings {
-            sizes,
-            starts: [0; 1280],
-            pieces: ArrayVec::new(),
-        };
         let mut opens = ArrayVec::new();
         for r in 0..rules.len() {
-            strings.spell(file, rules, r, &mut opens);
+            self.spell(file, rules, r, &mut opens);
         }
-        strings
     }
 
     // The gaps of rule r as pieces, after those of the rules below it.
@@ -169,10 +161,10 @@ impl<'a> GapStrings<'a> {
 
     // Puts the gap of an open word that is due; says what is due then, where it was not the word's last.
     fn put_gap(&mut self, word: Open) -> Option<Open>
-        requires { (word.next < 65535) × GapStands self.old.sizes.now self.old.starts self.old.pieces.items word.next
-            × (IsSome (code_for self.old.sizes.now self.old.starts self.old.pieces.items word.next) → array_vec_len self.old.pieces < 16384) }
-        ensures rest { MatchOption result (word.due ≤ 1) (λ e. (e.next ≡ suc word.next) × (suc e.due ≡ word.due) × (1 ≤ e.due)) }
-        ensures put { self.new.pieces.items ≡ self.old.pieces.items ++ option_to_list (code_for self.old.sizes.now self.old.starts self.old.pieces.items word.next) }
+        requires { (next_gap word < 2047) × GapStands self.old.sizes.now self.old.starts self.old.pieces.items (next_gap word)
+            × (IsSome (code_for self.old.sizes.now self.old.starts self.old.pieces.items (next_gap word)) → array_vec_len self.old.pieces < 16384) }
+        ensures rest { MatchOption result (due word ≤ 1) (λ e. (next_gap e ≡ suc (next_gap word)) × (suc (due e) ≡ due word) × (1 ≤ due e)) }
+        ensures put { self.new.pieces.items ≡ self.old.pieces.items ++ option_to_list (code_for self.old.sizes.now self.old.starts self.old.pieces.items (next_gap word)) }
         ensures starts_kept { self.new.starts ≡ self.old.starts }
         ensures sizes_kept { self.new.sizes.now ≡ self.old.sizes.now }
     {
@@ -184,8 +176,8 @@ impl<'a> GapStrings<'a> {
 
     // The piece to put for the next gap of an open word: none where the gap has no words; the gap's own piece where it has only one.
     fn piece_for(&self, word: Open) -> Option<u16>
-        requires { GapStands self.now.sizes.now self.now.starts self.now.pieces.items word.next }
-        ensures { result ≡ code_for self.now.sizes.now self.now.starts self.now.pieces.items word.next }
+        requires { GapStands self.now.sizes.now self.now.starts self.now.pieces.items (next_gap word) }
+        ensures { result ≡ code_for self.now.sizes.now self.now.starts self.now.pieces.items (next_gap word) }
     {
         let g = word.gap()?;
         if self.sizes[g] == 0 {

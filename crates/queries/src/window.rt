@@ -8,6 +8,7 @@ ghost use Rattle.queries.specs.Building.{rules_of};
 
 use crate::pieces::GapStrings;
 use crate::walk::walk;
+use arrayvec::ArrayVec;
 use grammar::read::read;
 use grammar::refusals::{Answer, Refusal, Refused};
 use grammar::rules::Entry;
@@ -49,6 +50,11 @@ fn expand(file: &[u8], rules: &[Entry], sizes: &[u64], p: u64, out: &mut [u16])
     requires { Denotes file.now rules.now sizes.now × (p + length out.old ≤ nodes (rules_of file.now)) }
     ensures { out.new ≡ take (length out.old) (drop p (tree_of (rules_of file.now))) }
 {
-    let strings = GapStrings::new(file, rules, sizes);
+    let mut strings = GapStrings {
+        sizes,
+        starts: [0; 1280],
+        pieces: ArrayVec::new(),
+    };
+    strings.spell_all(file, rules);
     walk(&strings, rules.len(), p, out);
 }

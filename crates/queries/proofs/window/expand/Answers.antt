@@ -3,8 +3,8 @@ use Rattle.queries.proofs.Windows.{walkable, window_words}
 use Rattle.queries.proofs.window.expand.Goals as goal
 
 pub walk-requires : goal.walk-requires
-walk-requires c = walkable c.new-strings.ensures.spelt.held c.new-strings.ensures.spelt _ _ c.requires.1
+walk-requires c = walkable c.spell_all.ensures.spelt.held c.spell_all.ensures.spelt _ _ c.requires.1
 
 pub returns : goal.returns
 returns c =
-    window_words c.new-strings.ensures.spelt.held c.new-strings.ensures.spelt c.args.p _ _ c.walk.auto.out c.walk.ensures
+    window_words c.spell_all.ensures.spelt.held c.spell_all.ensures.spelt c.args.p _ _ c.walk.auto.out c.walk.ensures
