@@ -3,15 +3,18 @@ use Rattle.std.specs.Prelude.{ℕ, ◌+◌, ◌*◌, ◌≤◌, ◌<◌, ◌≡�
 use Rattle.model.specs.Answers.{Answer}
 use Rattle.grammar.specs.Meaning.{word_in, length_in}
 use Rattle.io.specs.Counts.{IsPrefixLen}
+use Rattle.cases.specs.Kinds.{kind_of}
 use Rattle.cases.specs.declared.case.Case as cases
 use Rattle.cases.specs.declared.case.Kind.TheVariants as kinds
 use Rattle.cases.specs.declared.records.Found.{Found}
 use Rattle.cases.specs.declared.records.Found.TheVariants.{File, Case}
 
--- a case lies within its buffer, has its five fields and is no file
+-- a case lies within its buffer, has its five fields, and is of the kind of a number, but no file
 pub record IsCase (c : cases.Case) (case : List ℕ) : Type 0 where
   pub within : IsPrefixLen c.size case
   pub has_fields : 20 ≤ c.size
+  pub number : ℕ
+  pub of_number : c.kind ≡ kind_of number
   pub no_file : c.kind ≡ kinds.File → ⊥
 
 -- a file lies within its buffer
