@@ -5,4 +5,4 @@ use Rattle.cases.specs.declared.case.Kind.TheVariants.{File, Check, Label, Windo
 
 -- by its number
 abbrev pub kind_of : ℕ → Kind
-kind_of n = if n == 1 then File else (if n == 2 then Check else (if n == 3 then Label else (if n == 4 then Window else Other)))
+kind_of n = if n == 1 then File else (if n == 2 then Check else (if n == 3 then Label else (if n == 4 then Window else Other n)))

@@ -2,22 +2,26 @@
 use Rattle.std.specs.Prelude.{ℕ, ◌+◌, ◌*◌, ◌≤◌, ◌<◌, ◌≡◌, Bool, ◌&&◌, List, Option, Some, None, eqb, length, get_or}
 use Rattle.model.specs.Answers.{Answer}
 use Rattle.grammar.specs.Meaning.{word_in, length_in}
-use Rattle.arrayvec.specs.ArrayVec.{array_vec_len}
+use Rattle.io.specs.Counts.{IsPrefixLen}
+use Rattle.cases.specs.Kinds.{kind_of}
 use Rattle.cases.specs.declared.case.Case as cases
 use Rattle.cases.specs.declared.case.Kind.TheVariants as kinds
 use Rattle.cases.specs.declared.records.Found.{Found}
 use Rattle.cases.specs.declared.records.Found.TheVariants.{File, Case}
 
--- a case has its five fields and is no file
-pub record IsCase {N : ℕ} (c : cases.Case N) : Type 0 where
-  pub has_fields : 20 ≤ array_vec_len c.payload
+-- a case lies within its buffer, has its five fields, and is of the kind of a number, but no file
+pub record IsCase (c : cases.Case) (case : List ℕ) : Type 0 where
+  pub within : IsPrefixLen c.size case
+  pub has_fields : 20 ≤ c.size
+  pub number : ℕ
+  pub of_number : c.kind ≡ kind_of number
   pub no_file : c.kind ≡ kinds.File → ⊥
 
 -- a file lies within its buffer
-abbrev pub Fits : {N : ℕ} → Option (Found N) → List ℕ → Type 0
-Fits (Some (File n)) file = n ≤ length file
-Fits (Some (Case c)) file = IsCase c
-Fits None file = Unit {0}
+abbrev pub Fits : Option Found → List ℕ → List ℕ → Type 0
+Fits (Some (File n)) file case = n ≤ length file
+Fits (Some (Case c)) file case = IsCase c case
+Fits None file case = Unit {0}
 
 -- the 64-bit number at a place
 abbrev pub long_in : List ℕ → ℕ → ℕ

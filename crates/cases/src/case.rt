@@ -2,16 +2,14 @@
 ghost use Rattle.std.specs.Prelude.{◌≡◌};
 ghost use Rattle.cases.specs.Kinds.{kind_of};
 
-use arrayvec::ArrayVec;
-
-// What a record is, by the number of its kind. No case of another kind is answered rightly.
+// What a record is, by the number of its kind. Another kind keeps its number; no case of it is answered rightly.
 #[derive(Clone, Copy, PartialEq, Eq)]
 pub enum Kind {
     File,
     Check,
     Label,
     Window,
-    Other,
+    Other(u16),
 }
 
 impl From<u16> for Kind {
@@ -23,14 +21,14 @@ impl From<u16> for Kind {
             2 => Kind::Check,
             3 => Kind::Label,
             4 => Kind::Window,
-            _ => Kind::Other,
+            _ => Kind::Other(number),
         }
     }
 }
 
-// A case with its payload, of at most N bytes.
-#[derive(Clone, Drop)]
-pub struct Case<const N: usize> {
+// A case. Its payload is the first `size` bytes of the slice that was lent for it.
+#[derive(Clone, Copy, PartialEq, Eq)]
+pub struct Case {
     pub kind: Kind,
-    pub payload: ArrayVec<u8, N>,
+    pub size: usize,
 }

@@ -5,48 +5,57 @@ ghost use Rattle.cases.specs.Progress.{begun, judged_as, Advanced};
 use crate::case::Case;
 use crate::records::{Found, next};
 
-// The length of the file asked about, the case at hand, which is none before the first and at the data's end, how many cases there were and how
-// many of them were answered wrong. `length` stands beside no buffer: `Turning.none_wrong` speaks of it, and the space for the file is lent.
-#[derive(Clone, Drop)]
-pub struct Progress<const N: usize> {
+// Before the first case, at a case, or at the data's end.
+#[derive(Clone, Copy, PartialEq, Eq)]
+pub enum Stage {
+    Begun,
+    Case(Case),
+    Ended,
+}
+
+// The length of the file asked about, where in the data this is, how many cases there were and how many of them were answered wrong.
+// `length` stands beside no buffer: `Turning.none_wrong` speaks of it, and the space for the file is lent.
+#[derive(Clone, Copy)]
+pub struct Progress {
     pub length: usize,
-    pub case: Option<Case<N>>,
+    pub stage: Stage,
     pub cases: u64,
     pub wrong: u64,
 }
 
-impl<const N: usize> Progress<N> {
+impl Progress {
     // Before the first case, with a file of the given length at hand.
     pub fn new(length: usize) -> Self
         ensures { result ≡ begun length }
     {
         Progress {
             length,
-            case: None,
+            stage: Stage::Begun,
             cases: 0,
             wrong: 0,
         }
     }
 
-    // On to the next case, past a file that stands before it. A case is counted; where there is none, that is the end.
-    pub fn advance(self, fd: i32, file: &mut [u8]) -> Self
+    // On to the next case, past a file that stands before it. A case is counted; where there is none, that is the end. What doesn't fit into the
+    // slice that is lent for it is none.
+    pub fn advance(self, fd: i32, file: &mut [u8], case: &mut [u8]) -> Self
         requires { (self.length ≤ length file.old) × (self.cases < 1000000) }
-        ensures { Advanced self.entry result file.new }
+        ensures { Advanced self result file.new case.new }
     {
-        let (length, found) = match next(fd, file) {
-            Some(Found::File(length)) => (length, next(fd, file)),
+        let (length, found) = match next(fd, file, case) {
+            Some(Found::File(length)) => (length, next(fd, file, case)),
             found => (self.length, found),
         };
         match found {
             Some(Found::Case(case)) => Progress {
                 length,
-                case: Some(case),
+                stage: Stage::Case(case),
                 cases: self.cases + 1,
                 ..self
             },
             Some(Found::File(_)) | None => Progress {
                 length,
-                case: None,
+                stage: Stage::Ended,
                 ..self
             },
         }
@@ -55,7 +64,7 @@ impl<const N: usize> Progress<N> {
     // The case was answered, rightly or not.
     pub fn judged(self, right: bool) -> Self
         requires { self.wrong < 1000000 }
-        ensures { result ≡ judged_as self.entry right }
+        ensures { result ≡ judged_as self right }
     {
         if right {
             return self;

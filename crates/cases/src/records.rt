@@ -4,34 +4,31 @@ ghost use Rattle.grammar.specs.Meaning.{word_in};
 ghost use Rattle.cases.specs.Records.{Fits, long_in, WordsAt};
 
 use crate::case::{Case, Kind};
-use arrayvec::ArrayVec;
 use grammar::file::{bytes_at, length_at, word_at};
 
-// What the next record is: a file, with its length, which is at the start of the slice that was lent for it, or a case.
-#[derive(Drop)]
-pub(crate) enum Found<const N: usize> {
+// What the next record is: a file, with its length, or a case. It is at the start of the slice that was lent for it.
+#[derive(Clone, Copy)]
+pub(crate) enum Found {
     File(usize),
-    Case(Case<N>),
+    Case(Case),
 }
 
-pub(crate) fn next<const N: usize>(fd: i32, file: &mut [u8]) -> Option<Found<N>>
-    ensures { Fits result file.new }
+pub(crate) fn next(fd: i32, file: &mut [u8], case: &mut [u8]) -> Option<Found>
+    ensures { Fits result file.new case.new }
 {
     let mut head = [0; 6];
     fill(fd, &mut head)?;
-    let n = length_at(&head, 0);
+    let size = length_at(&head, 0);
     let kind = Kind::from(word_at(&head, 4));
     if kind == Kind::File {
-        fill(fd, file.get_mut(..n)?)?;
-        return Some(Found::File(n));
+        fill(fd, file.get_mut(..size)?)?;
+        return Some(Found::File(size));
     }
-    if n < 20 || N < n {
+    if size < 20 {
         return None;
     }
-    let mut payload = ArrayVec::from([0; N]);
-    payload.truncate(n);
-    fill(fd, &mut payload)?;
-    Some(Found::Case(Case { kind, payload }))
+    fill(fd, case.get_mut(..size)?)?;
+    Some(Found::Case(Case { kind, size }))
 }
 
 // Fills `out`, if there are so many bytes.

@@ -29,4 +29,4 @@ Right Check file case = CheckRight file case
 Right Label file case = LabelRight file case
 Right Window file case = WindowRight ((length case - 20) / 2) file case
 Right File file case = ⊥
-Right Other file case = ⊥
+Right (Other n) file case = ⊥

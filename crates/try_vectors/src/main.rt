@@ -3,7 +3,6 @@
 #![tactic(auto)]
 
 ghost use Rattle.std.specs.Prelude.{◌+◌, ◌≤◌, ◌<◌, ◌-◌, ◌/◌, ◌≡◌, ◌↔◌, IsTrue, length};
-ghost use Rattle.arrayvec.specs.ArrayVec.{array_vec_len};
 ghost use Rattle.try_vectors.specs.Right.{Right};
 ghost use Rattle.try_vectors.specs.Running.{Turned, RanOut};
 
@@ -11,8 +10,8 @@ mod name;
 
 use arrayvec::ArrayVec;
 use cases::answers::is_query_answer;
-use cases::case::{Case, Kind};
-use cases::progress::Progress;
+use cases::case::Kind;
+use cases::progress::{Progress, Stage};
 use cases::records::{Question, words_are};
 use cases::reference::put_doubled;
 use grammar::answers::{check, count};
@@ -72,14 +71,14 @@ where
 }
 
 // One case after the other, up to a number that no data reaches.
-fn run(name: Name, fd: i32, file: &mut [u8], ready: usize) -> Progress<PAYLOAD>
+fn run(name: Name, fd: i32, file: &mut [u8], ready: usize) -> Progress
     requires { ready ≤ length file.old }
     ensures { RanOut ready result }
 {
     let mut p = Progress::new(ready);
     for _ in 0..1_000_000u64 {
         p = turn(name, fd, file, p);
-        if p.case.is_none() {
+        if p.stage == Stage::Ended {
             return p;
         }
     }
@@ -87,15 +86,16 @@ fn run(name: Name, fd: i32, file: &mut [u8], ready: usize) -> Progress<PAYLOAD>
 }
 
 // One case.
-fn turn(name: Name, fd: i32, file: &mut [u8], p: Progress<PAYLOAD>) -> Progress<PAYLOAD>
+fn turn(name: Name, fd: i32, file: &mut [u8], p: Progress) -> Progress
     requires { (p.length ≤ length file.old) × (p.cases < 1000000) × (p.wrong < 1000000) }
     ensures { Turned p result file.new }
 {
-    let q = p.advance(fd, file);
-    let Some(case) = &q.case else {
+    let mut space = [0; PAYLOAD];
+    let q = p.advance(fd, file, &mut space);
+    let Stage::Case(case) = q.stage else {
         return q;
     };
-    let right = is_right(&file[..q.length], case);
+    let right = is_right(case.kind, &file[..q.length], &space[..case.size]);
     if !right {
         name.print_wrong(q.cases);
     }
@@ -105,17 +105,18 @@ fn turn(name: Name, fd: i32, file: &mut [u8], p: Progress<PAYLOAD>) -> Progress<
 // By the case's kind: the checker's answer is the case's, and so is the counter's, with its N; the label query's, with its word; the window
 // expander's, with its words, where the window has as many as the case.
 #[tactic(auto, using(crate::proofs::Judging::held))]
-fn is_right(file: &[u8], case: &Case<PAYLOAD>) -> bool
-    requires { 20 ≤ array_vec_len case.now.payload }
-    ensures { IsTrue result ↔ Right case.now.kind file.now case.now.payload.items }
+fn is_right(kind: Kind, file: &[u8], payload: &[u8]) -> bool
+    requires { (20 ≤ length payload.now) × (length payload.now ≤ PAYLOAD) }
+    ensures { IsTrue result ↔ Right kind file.now payload.now }
 {
-    let q = Question::of(&case.payload);
-    match case.kind {
+    let q = Question::of(payload);
+    match kind {
         Kind::Check => {
-            let counted = count(file);
             is_query_answer(check(file), q.number, q.place)
-                && is_query_answer(counted.answer, q.number, q.place)
-                && counted.nodes == q.value
+                && {
+                    let counted = count(file);
+                    is_query_answer(counted.answer, q.number, q.place) && counted.nodes == q.value
+                }
         }
         Kind::Label => {
             let labelled = label(file, q.position);
@@ -123,12 +124,12 @@ fn is_right(file: &[u8], case: &Case<PAYLOAD>) -> bool
                 && u64::from(labelled.word) == q.value
         }
         Kind::Window => {
-            let n = (case.payload.len() - 20) / 2;
+            let n = (payload.len() - 20) / 2;
             let mut space = [7u16; 128];
             let words = &mut space[..n];
             is_query_answer(window(file, q.position, words), q.number, q.place)
-                && words_are(words, &case.payload, 20)
+                && words_are(words, payload, 20)
         }
-        Kind::File | Kind::Other => false,
+        Kind::File | Kind::Other(_) => false,
     }
 }

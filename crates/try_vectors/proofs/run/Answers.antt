@@ -8,8 +8,8 @@ use Rattle.try_vectors.proofs.run.Goals as goal
 pub loop-init : goal.loop-init
 loop-init c = rw c.new-p.ensures (not_yet, c.requires, omega arith, omega arith)
 
-pub returns-then-is_none : goal.returns-then-is_none
-returns-then-is_none c =
+pub returns-then-eq : goal.returns-then-eq
+returns-then-eq c =
     let l = c.loop in
     record { turns = suc l.counter; ran = further l.invariant.0 c.turn-p.ensures; ended = inl (omega arith, grind (arith, common_steps)) }
 
