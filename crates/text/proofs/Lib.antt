@@ -1,3 +1,3 @@
+pub mod Putting
 pub mod Decimals
-pub mod HexWords
 pub mod ReadingDigits
