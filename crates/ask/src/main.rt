@@ -13,6 +13,8 @@ mod replies;
 use arrayvec::ArrayVec;
 use question::parse;
 use replies::put_reply;
+use std::env::FillError;
+use std::rt::Env;
 use text::arguments::{argument, arguments};
 
 const STDIN: i32 = 0;
@@ -25,10 +27,10 @@ fn main(rt: HostRuntime) {
     let mut first = [0; 32];
     let mut second = [0; 32];
     let question = parse(
-        arguments::<5>(&rt),
-        argument(&rt, 1, &mut name),
-        argument(&rt, 2, &mut first),
-        argument(&rt, 3, &mut second),
+        arguments::<5, _>(|i| matches!(rt.arg(i, &mut []), Err(FillError::NotPresent))),
+        argument(rt.arg(1, &mut name), &name),
+        argument(rt.arg(2, &mut first), &first),
+        argument(rt.arg(3, &mut second), &second),
     );
     // `io::read_full` gives a count, and the file is sliced at once; an ArrayVec would be no plainer: filled to be lent, then cut to the same count.
     let mut file = [0; 16385];

@@ -1,3 +1,4 @@
+pub mod Putting
 pub mod Decimals
-pub mod HexWords
 pub mod ReadingDigits
+pub mod Names

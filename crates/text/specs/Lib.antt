@@ -1,3 +1,4 @@
+pub mod Lines
 pub mod Numbers
 pub mod Answers
 pub mod Operations

@@ -1,11 +1,12 @@
 // An answer as a line.
-ghost use Rattle.std.specs.Prelude.{◌+◌, ◌≤◌, ◌≡◌, ◌++◌, eqb};
+ghost use Rattle.std.specs.Prelude.{◌+◌, ◌≤◌, ◌≡◌, ◌++◌, eqb, length};
 ghost use Rattle.arrayvec.specs.ArrayVec.{array_vec_len};
 ghost use Rattle.model.specs.Refusals.{number_of};
 ghost use Rattle.grammar.specs.Meaning.{refusal_is, answer_is};
+ghost use Rattle.text.specs.Lines.{Put};
 ghost use Rattle.text.specs.Answers.{answer_line, refusal_line};
 
-use crate::lines::put;
+use crate::lines::{put, put_at};
 use crate::numbers::put_decimal;
 use crate::refusals::{name, number};
 use arrayvec::ArrayVec;
@@ -21,6 +22,16 @@ pub fn put_answer<const N: usize>(a: Answer, out: &mut ArrayVec<u8, N>)
         Ok(()) => put(b"accepted\n", out),
         Err(x) => put_refusal(x, out),
     }
+}
+
+// The same at the start of a lent slice, with the place after it.
+pub fn put_answer_at(a: Answer, out: &mut [u8]) -> usize
+    requires { 80 ≤ length out.old }
+    ensures { Put (answer_line (answer_is a)) out.old 0 out.new result × (result ≤ 80) }
+{
+    let mut line: ArrayVec<u8, 80> = ArrayVec::new();
+    put_answer(a, &mut line);
+    put_at(&line, out, 0)
 }
 
 // Accepted is number 0.

@@ -1,25 +1,29 @@
 // A program's arguments.
-ghost use Rattle.std.specs.Prelude.{◌≤◌, length};
+ghost use Rattle.std.specs.Prelude.{◌≡◌, ℕ, ◌<◌, ◌≤◌, true, false, [], take, MatchResult};
+ghost use Rattle.std.specs.Io.{WritesAtMost};
 
 use std::env::FillError;
-use std::rt::Env;
 
-// Argument i, put at the start of `text`; empty where it is missing or too long.
-pub fn argument<'a>(rt: &impl Env, i: usize, text: &'a mut [u8]) -> &'a [u8]
-    ensures { length result.now ≤ length text.old }
+// The argument that was read to the start of `text`; empty where it was missing or too long.
+pub fn argument(read: Result<usize, FillError>, text: &[u8]) -> &[u8]
+    requires { WritesAtMost read text.now }
+    ensures { MatchResult read (λ n. result.now ≡ take n text.now) (λ _. result.now ≡ []) }
 {
-    match rt.arg(i, text) {
+    match read {
         Ok(n) => &text[..n],
         Err(_) => &[],
     }
 }
 
-// How many arguments there are, the program's name among them. What comes after the first MOST isn't counted.
-pub fn arguments<const MOST: usize>(rt: &impl Env) -> usize
-    ensures { result ≤ MOST }
+// How many arguments there are, the program's name among them: the first that is missing ends them. What comes after the first MOST isn't counted.
+pub fn arguments<const MOST: usize, F: Fn(usize) -> bool>(is_missing: F) -> usize
+    requires { F.IsAlwaysCallable is_missing }
+    ensures most { result ≤ MOST }
+    ensures there { (i : ℕ) → i < result → F.post is_missing i false }
+    ensures ended { result < MOST → F.post is_missing result true }
 {
     for i in 0..MOST {
-        if let Err(FillError::NotPresent) = rt.arg(i, &mut []) {
+        if is_missing(i) {
             return i;
         }
     }

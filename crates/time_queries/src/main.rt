@@ -14,6 +14,8 @@ mod task;
 
 use arrayvec::ArrayVec;
 use runs::put_run;
+use std::env::FillError;
+use std::rt::Env;
 use task::parse;
 use text::arguments::{argument, arguments};
 
@@ -26,9 +28,9 @@ fn main(rt: HostRuntime) {
     let mut name = [0; 32];
     let mut number = [0; 32];
     let task = parse(
-        arguments::<4>(&rt),
-        argument(&rt, 1, &mut name),
-        argument(&rt, 2, &mut number),
+        arguments::<4, _>(|i| matches!(rt.arg(i, &mut []), Err(FillError::NotPresent))),
+        argument(rt.arg(1, &mut name), &name),
+        argument(rt.arg(2, &mut number), &number),
     );
     let Some(task) = task else {
         io::write_all(

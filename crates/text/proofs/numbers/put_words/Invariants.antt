@@ -1,8 +1,13 @@
--- `text::numbers::put_words` meets its contract: after i turns the first i words are put, five bytes each.
-use Rattle.std.proofs.Common.{◌≡◌, ◌+◌, ◌*◌, ◌++◌}
+-- `text::numbers::put_words` meets its contract: what stood there stands, and there is room for all but the lines that are left.
+use Rattle.std.proofs.Common.{◌≡◌, ◌+◌, ◌*◌, length, take}
+use Rattle.std.specs.Slice.Iter.{chunks_rest, chunks_size}
 use Rattle.arrayvec.specs.ArrayVec.{array_vec_len}
-use Rattle.text.specs.Numbers.{words_to}
 use Rattle.text.proofs.numbers.put_words.Given as goal
 
-abbrev pub invariant-loop-i : goal.invariant-loop-i
-invariant-loop-i g l = (l.out.items ≡ l.initial.out.items ++ words_to l.words l.i) × (array_vec_len l.out ≡ array_vec_len l.initial.out + 5 * l.i)
+abbrev pub invariant-loop-line : goal.invariant-loop-line
+invariant-loop-line g l =
+    (goal.iterator-loop-line g).can_next l.line-iterator
+    × (goal.iterator-loop-line g).is_finite l.line-iterator
+    × (chunks_size l.line-iterator ≡ 16)
+    × (take (array_vec_len l.initial.out) l.out.items ≡ l.initial.out.items)
+    × (array_vec_len l.out + 5 * length (chunks_rest l.line-iterator) ≡ array_vec_len l.initial.out + 5 * length l.words)
