@@ -25,7 +25,7 @@ returns-then-end-file c =
 pub returns : goal.returns
 returns c =
     let a = c.args in (
-      no_trail a.file.now a.n c.requires.0 c.requires.1 a.table.now c.rules.new.table c.rules.result c.rules.ensures c.in_ok-end.end c.in_ok-end.was c.if-end-file.false,
+      no_trail a.file.now a.n c.requires.0 c.requires.1 a.table.now c.rules.new.table c.rules.result c.rules.ensures c.in_ok-end.end c.in_ok-end.was (omega arith),
       measurable a.file.now a.n c.requires.0 c.requires.1 a.table.now c.rules.new.table c.rules.result c.rules.ensures c.in_ok-end.end c.in_ok-end.was c.requires.2,
       table_is a.file.now a.n c.requires.0 c.requires.1 a.table.now c.rules.new.table c.rules.result c.rules.ensures c.in_ok-end.end c.in_ok-end.was c.requires.3 c.requires.2,
     )
