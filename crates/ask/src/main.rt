@@ -27,7 +27,7 @@ fn main(rt: HostRuntime) {
     let mut first = [0; 32];
     let mut second = [0; 32];
     let question = parse(
-        arguments::<5, _>(|i| matches!(rt.arg(i, &mut []), Err(FillError::NotPresent))),
+        arguments::<5, _>(|i| matches!(rt.arg(i, &mut [0; 32]), Err(FillError::NotPresent))),
         argument(rt.arg(1, &mut name), &name),
         argument(rt.arg(2, &mut first), &first),
         argument(rt.arg(3, &mut second), &second),

@@ -26,7 +26,7 @@ impl From<u16> for Kind {
     }
 }
 
-// A case. Its payload is the first `size` bytes of the slice that was lent for it.
+// A case. Its payload is the first `size` bytes of the slice that was lent for it: a vector of its own would not be Copy, as a run's progress is.
 #[derive(Clone, Copy, PartialEq, Eq)]
 pub struct Case {
     pub kind: Kind,

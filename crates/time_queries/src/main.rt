@@ -28,7 +28,7 @@ fn main(rt: HostRuntime) {
     let mut name = [0; 32];
     let mut number = [0; 32];
     let task = parse(
-        arguments::<4, _>(|i| matches!(rt.arg(i, &mut []), Err(FillError::NotPresent))),
+        arguments::<4, _>(|i| matches!(rt.arg(i, &mut [0; 32]), Err(FillError::NotPresent))),
         argument(rt.arg(1, &mut name), &name),
         argument(rt.arg(2, &mut number), &number),
     );

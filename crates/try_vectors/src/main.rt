@@ -8,12 +8,11 @@ ghost use Rattle.try_vectors.specs.Running.{Turned, RanOut};
 
 mod name;
 
-use arrayvec::ArrayVec;
 use cases::answers::is_query_answer;
 use cases::case::Kind;
 use cases::progress::{Progress, Stage};
 use cases::records::{Question, words_are};
-use cases::reference::put_doubled;
+use cases::reference::put_doubled_at;
 use grammar::answers::{check, count};
 use name::Name;
 use queries::label::label;
@@ -49,10 +48,7 @@ where
     R::File: AsRawFd,
     requires { 582 ≤ length file.old }
 {
-    let mut doubled: ArrayVec<u8, 582> = ArrayVec::new();
-    put_doubled(called, &mut doubled);
-    let n = doubled.len();
-    file[..n].copy_from_slice(&doubled);
+    let n = put_doubled_at(called, file);
     over(rt, checks, file, n);
     over(rt, queries, file, n);
 }
