@@ -1,16 +1,14 @@
 // A program's arguments.
-ghost use Rattle.std.specs.Prelude.{◌≡◌, ℕ, ◌<◌, ◌≤◌, true, false, [], take, MatchResult};
-ghost use Rattle.std.specs.Io.{WritesAtMost};
+ghost use Rattle.std.specs.Prelude.{◌≡◌, ℕ, ◌<◌, ◌≤◌, true, false, cond, leb, [], length, take, MatchResult};
 
 use std::env::FillError;
 
 // The argument that was read to the start of `text`; empty where it was missing or too long.
 pub fn argument(read: Result<usize, FillError>, text: &[u8]) -> &[u8]
-    requires { WritesAtMost read text.now }
-    ensures { MatchResult read (λ n. result.now ≡ take n text.now) (λ _. result.now ≡ []) }
+    ensures { MatchResult read (λ n. result.now ≡ cond (leb n (length text.now)) (take n text.now) []) (λ _. result.now ≡ []) }
 {
     match read {
-        Ok(n) => &text[..n],
+        Ok(n) => text.get(..n).unwrap_or(&[]),
         Err(_) => &[],
     }
 }
