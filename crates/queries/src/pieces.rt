@@ -59,7 +59,7 @@ impl Open {
         ensures { MatchOption result (1280 ≤ next_gap self) (λ g. (g ≡ next_gap self) × (g < 1280)) }
     {
         let g = (self.0 % 2048) as usize;
-        if g < 1280 { Some(g) } else { None }
+        (g < 1280).then_some(g)
     }
 
     // The word once that gap is given, where it was not the last.
@@ -67,11 +67,7 @@ impl Open {
         requires { next_gap self < 2047 }
         ensures { MatchOption result (due self ≤ 1) (λ e. (next_gap e ≡ suc (next_gap self)) × (suc (due e) ≡ due self) × (1 ≤ due e)) }
     {
-        if 4096 <= self.0 {
-            Some(Open(self.0 - 2047))
-        } else {
-            None
-        }
+        (4096 <= self.0).then(|| Open(self.0 - 2047))
     }
 }
 
